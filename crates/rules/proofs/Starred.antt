@@ -1,0 +1,79 @@
+-- The numbers that document 01 marks *, a row each of one table, proved once of the definitions by computation.
+use Prim.Native.Nat.{ℕ}
+use mathlib.Core.Path.{_≡_, refl}
+use mathlib.Core.Bool.{Bool, true, false}
+use mathlib.Core.List.{List, [], _∷_, map}
+use lib.ListN.{replicate}
+use Rattle.rules.specs.Types.{Maps, Cells, Access, Call, Entry}
+use Rattle.rules.specs.Memory.{Memory}
+use Rattle.rules.specs.Unit.{cellCount}
+use Rattle.rules.specs.Maps.{unpagedAt, pageOf, physicalAt, high7, pointedAt, simpleWalk, sharedWalk, walkOf, execZero, looked, stepped, tagIn}
+use Rattle.rules.specs.Answers.{shown}
+use Rattle.rules.specs.Calls.{callOf, fresh}
+use Rattle.rules.proofs.Opened.{opened}
+
+-- an unpaged word DATI of the fresh unit, in state SOURCE: the number of its answer
+abbrev pub answerAt : Memory → ℕ → ℕ
+answerAt m a =
+    shown (callOf m fresh (Call.Access (record { op = 0; state = 1; width = 0; addr = a; datum = 0 })) .reply .answer) .number
+
+-- KTUM 004005o; KTEM with N=4, M=1
+abbrev pub maps : Maps
+maps = record { ktum = 0o004005; ktem = 0o004001 }
+
+-- the cells after the exec's pages of a list were looked for, with KTEM's map page, the second page of this memory, all zero
+abbrev pub lookedFor : List ℕ → Cells → Cells
+lookedFor [] k = k
+lookedFor (p ∷ ps) k = lookedFor ps (looked (replicate 1024 0) (record { ktum = 0; ktem = 1 }) false p k .cells)
+
+pub record Starred : Type 0 where
+  -- "KTUM 004005o (N=4)"
+  pub n-of-ktum : high7 0o004005 ≡ 4
+  -- "user page 3 word at 005406o"
+  pub user-3 : (m : Memory) → walkOf m maps true 3 ≡ simpleWalk m 0o005406
+  -- "page 4 pointer at 005410o"
+  pub user-4 : (m : Memory) → walkOf m maps true 4 ≡ sharedWalk m 0o005410
+  -- "pointer 003007o leads to 007406o"
+  pub pointer : pointedAt 0o003007 ≡ 0o007406
+  -- "KTEM N=4, M=1: exec page 3 at 001406o"
+  pub exec-3 : (m : Memory) → walkOf m maps false 3 ≡ simpleWalk m 0o001406
+  -- "exec page 4, with the KTUM above, at 005010o"
+  pub exec-4 : (m : Memory) → walkOf m maps false 4 ≡ simpleWalk m 0o005010
+  -- "KTEM M=1: exec 000777o is 001777o"
+  pub zero-page : (m : Memory) (k : Cells) → looked m maps false (pageOf 0o000777) k .entry ≡ Entry.ExecZero 1
+  pub zero-byte : physicalAt 1 0o000777 ≡ 0o001777
+  -- "exec 001000o is walked"
+  pub one-walked : execZero false (pageOf 0o001000) ≡ false
+  -- "Unpaged byte DATI 157777o stays"
+  pub stays : unpagedAt 0o157777 ≡ 0o157777
+  -- "160000o is 760000o"
+  pub moves : unpagedAt 0o160000 ≡ 0o760000
+  -- "L=0: unpaged 0 times out."
+  pub nothing-there : answerAt [] 0 ≡ 9
+  -- "L=4: .. 4 times out."
+  pub past-the-end : answerAt (replicate 4 0) 4 ≡ 9
+  -- "The counter after 17o is 10o: the ninth walk refills the first cell."
+  pub counter-round : stepped cellCount 0o17 ≡ 0o10
+  pub ninth-refills :
+      map tagIn (lookedFor (1 ∷ 2 ∷ 3 ∷ 4 ∷ 5 ∷ 6 ∷ 7 ∷ 8 ∷ 9 ∷ []) (fresh .cells) .list) ≡ 9 ∷ 2 ∷ 3 ∷ 4 ∷ 5 ∷ 6 ∷ 7 ∷ 8 ∷ []
+
+pub starred : Starred
+unfolding opened
+starred =
+    record {
+      n-of-ktum = refl;
+      user-3 = λ m. refl;
+      user-4 = λ m. refl;
+      pointer = refl;
+      exec-3 = λ m. refl;
+      exec-4 = λ m. refl;
+      zero-page = λ m k. refl;
+      zero-byte = refl;
+      one-walked = refl;
+      stays = refl;
+      moves = refl;
+      nothing-there = refl;
+      past-the-end = refl;
+      counter-round = refl;
+      ninth-refills = refl;
+    }

@@ -1,0 +1,25 @@
+-- What comes back: the number, the data and the physical address of each answer, as 01's table has them.
+use Prim.Native.Nat.{ℕ}
+use Rattle.rules.specs.Types.{Fault, Answer, Physical, Shown}
+
+unfoldable pub shownAs : ℕ → ℕ → Physical → Shown
+shownAs n d at = record { number = n; datum = d; physical = at }
+
+-- "4-8 | AV, RV, WV, PV, IV", "9 | time-out"
+unfoldable pub faultShown : Fault → Shown
+faultShown Fault.OddAddress = shownAs 4 0 Physical.Nowhere
+faultShown Fault.NoMapWord = shownAs 9 0 Physical.Nowhere
+faultShown Fault.NotResident = shownAs 5 0 Physical.Nowhere
+faultShown Fault.NotWritable = shownAs 6 0 Physical.Nowhere
+faultShown Fault.NotPublic = shownAs 7 0 Physical.Nowhere
+faultShown Fault.NoTarget = shownAs 9 0 Physical.Nowhere
+faultShown (Fault.Forbidden w at) = shownAs 8 w (Physical.At at)
+
+-- The table. "Answers 0 and 8 of an access give the physical address ..; sequence accesses, the other calls and the other answers give none."
+unfoldable pub shown : Answer → Shown
+shown (Answer.Done w at) = shownAs 0 w (Physical.At at)
+shown (Answer.Taken w) = shownAs 0 w Physical.Nowhere
+shown Answer.Misshapen = shownAs 1 0 Physical.Nowhere
+shown Answer.NotDue = shownAs 2 0 Physical.Nowhere
+shown Answer.UnpagedOdd = shownAs 3 0 Physical.Nowhere
+shown (Answer.Fault f) = faultShown f

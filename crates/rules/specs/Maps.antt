@@ -1,0 +1,168 @@
+-- From address to entry: unpaged or paged, page and offset, the maps, the walk, the cells (01, "From address to entry").
+use Prim.Native.Nat.{ℕ, _+_, _-_, _*_, _/_, _%_}
+use mathlib.Core.Bool.{Bool, true, false, not, _&&_, _||_}
+use mathlib.Core.List.{List, [], _∷_, map}
+use lib.Dec.{eqb, ltb}
+use lib.ListN.{length, getD, set}
+use Rattle.rules.specs.Types.{Maps, Cell, Cells, Found, Walk, Entry}
+use Rattle.rules.specs.Choice.{pick}
+use Rattle.rules.specs.Memory.{Memory, wordAt}
+use Rattle.rules.specs.Status.{bitIn}
+use Rattle.rules.specs.Unit.{emptyCell}
+use Rattle.rules.specs.Registers.{foundFrom}
+
+-- "Unpaged: FCN 0, or FCN 1 in a state other than DESTINATION or EXECUTE."
+unfoldable pub unpaged : ℕ → ℕ → Bool
+unpaged fcn state = eqb fcn 0 || (eqb fcn 1 && not (eqb state 2 || eqb state 3))
+
+-- "Physical equals virtual, but 160000o-177777o become 760000o-777777o (PDP-11 rule)."
+unfoldable pub unpagedAt : ℕ → ℕ
+unpagedAt a = pick (ltb a 0o160000) a (a + 0o600000)
+
+-- "Otherwise page p is the top 7 bits, the offset the low 9."
+unfoldable pub pageOf : ℕ → ℕ
+pageOf a = a / 512 % 128
+
+unfoldable pub physicalAt : ℕ → ℕ → ℕ
+physicalAt page a = 512 * page + a % 512
+
+-- A map word: "bit 15 resident, 14 public, 13 write-enabled .., 8-0 physical page; 12-9 ignored"
+unfoldable pub residentBit : ℕ → Bool
+residentBit w = bitIn w 0x8000
+
+unfoldable pub publicBit : ℕ → Bool
+publicBit w = bitIn w 0x4000
+
+unfoldable pub writeBit : ℕ → Bool
+writeBit w = bitIn w 0x2000
+
+-- the low 9 bits of a map word, a map register (M) or a pointer (m)
+unfoldable pub low9 : ℕ → ℕ
+low9 w = w % 512
+
+-- the high 7 bits of a map register (N) or a pointer (n)
+unfoldable pub high7 : ℕ → ℕ
+high7 w = w / 512 % 128
+
+-- "N=0 counts as 128": how many pages a map register calls simple. Both maps and all callers go by `simple`, which is the one boundary.
+unfoldable pub simpleCount : ℕ → ℕ
+simpleCount r = pick (eqb (high7 r) 0) 128 (high7 r)
+
+-- "pages below N are simple (source 3.3.2.2)"
+unfoldable pub simple : ℕ → ℕ → Bool
+simple r p = ltb p (simpleCount r)
+
+-- the word of page or entry p in the upper half of a physical page: "512·M+256+2p"
+unfoldable pub upperAt : ℕ → ℕ → ℕ
+upperAt page p = 512 * page + 256 + 2 * p
+
+-- the word of page p in its lower half: "512·M(KTUM)+2p"
+unfoldable pub lowerAt : ℕ → ℕ → ℕ
+lowerAt page p = 512 * page + 2 * p
+
+-- "the map word is at 512·m+256+2n": m the pointer's low 9 bits, n its high 7
+unfoldable pub pointedAt : ℕ → ℕ
+pointedAt w = upperAt (low9 w) (high7 w)
+
+-- a map word that stands at a place: "A map word or pointer at or beyond L is a time-out."
+unfoldable pub simpleWalk : Memory → ℕ → Walk
+simpleWalk m at = pick (ltb at (length m)) (Walk.Simple (wordAt m at) at) Walk.Off
+
+-- the map word that a pointer leads to, and "never a pointer again"
+unfoldable pub followed : Memory → ℕ → ℕ → Walk
+followed m from at = pick (ltb at (length m)) (Walk.Shared (wordAt m at) from at) Walk.Off
+
+-- "Other user pages: the word at that same place is a pointer, high 7 bits n, low 9 bits m; the map word is at 512·m+256+2n"
+unfoldable pub sharedWalk : Memory → ℕ → Walk
+sharedWalk m from = pick (ltb from (length m)) (followed m from (pointedAt (wordAt m from))) Walk.Off
+
+-- "Exec simple: word at 512·M(KTEM)+256+2p. Other exec pages: word at 512·M(KTUM)+2p."
+unfoldable pub execWalk : Memory → Maps → ℕ → Walk
+execWalk m r p =
+    pick (simple (r .ktem) p) (simpleWalk m (upperAt (low9 (r .ktem)) p)) (simpleWalk m (lowerAt (low9 (r .ktum)) p))
+
+-- "User simple: word at 512·M(KTUM)+256+2p. Other user pages: the word at that same place is a pointer"
+unfoldable pub userWalk : Memory → Maps → ℕ → Walk
+userWalk m r p =
+    pick (simple (r .ktum) p) (simpleWalk m (upperAt (low9 (r .ktum)) p)) (sharedWalk m (upperAt (low9 (r .ktum)) p))
+
+-- the walk of a page; exec page 0 has none
+unfoldable pub walkOf : Memory → Maps → Bool → ℕ → Walk
+walkOf m r user p = pick user (userWalk m r p) (execWalk m r p)
+
+-- "Its map words are those the walk read, pointer included.": their addresses
+unfoldable pub readsOf : Walk → List ℕ
+readsOf (Walk.Simple w at) = at ∷ []
+readsOf (Walk.Shared w from at) = from ∷ at ∷ []
+readsOf Walk.Off = []
+
+-- what a walk gives the access
+unfoldable pub entryOf : Walk → Entry
+entryOf (Walk.Simple w at) = Entry.Mapped w
+entryOf (Walk.Shared w from at) = Entry.Mapped w
+entryOf Walk.Off = Entry.OffMap
+
+-- "Exec page 0": the only page that has neither map word nor cell
+unfoldable pub execZero : Bool → ℕ → Bool
+execZero user p = not user && eqb p 0
+
+-- "Exec page 0: physical page M of KTEM, no cell, every key passes."
+unfoldable pub execZeroEntry : Maps → Entry
+execZeroEntry r = Entry.ExecZero (low9 (r .ktem))
+
+-- The entry by the maps alone, as the unit with no cells finds it.
+unfoldable pub walked : Memory → Maps → Bool → ℕ → Entry
+walked m r user p = pick (execZero user p) (execZeroEntry r) (entryOf (walkOf m r user p))
+
+-- "Tag: 128 for user plus p; 0 means empty."
+unfoldable pub tagOf : Bool → ℕ → ℕ
+tagOf user p = pick user (128 + p) p
+
+unfoldable pub tagIn : Cell → ℕ
+tagIn h = h .tag
+
+-- which cell holds a page
+unfoldable pub cellOf : Cells → ℕ → Found
+cellOf k tag = foundFrom 0 (map tagIn (k .list)) tag
+
+-- "the counter steps 10o to 17o and round (H)"
+unfoldable pub stepped : ℕ → ℕ → ℕ
+stepped n counter = pick (ltb counter (0o7 + n)) (counter + 1) 0o10
+
+-- "A finished walk fills the cell the counter names, then the counter steps"
+unfoldable pub filled : Cells → ℕ → ℕ → Cells
+filled k tag w =
+    record { list = set (k .list) (k .counter - 0o10) (record { tag = tag; word = w }); counter = stepped (length (k .list)) (k .counter) }
+
+-- an entry, and the cells as the look-up leaves them
+pub record Looked : Type 0 where
+  pub entry : Entry
+  pub cells : Cells
+
+-- "A finished walk fills the cell .. A walk that times out fills nothing."
+unfoldable pub filledBy : Cells → ℕ → Walk → Cells
+filledBy k tag (Walk.Simple w at) = filled k tag w
+filledBy k tag (Walk.Shared w from at) = filled k tag w
+filledBy k tag Walk.Off = k
+
+-- a page that no cell holds
+unfoldable pub missed : Cells → ℕ → Walk → Looked
+missed k tag w = record { entry = entryOf w; cells = filledBy k tag w }
+
+-- "A hit uses the cell."
+unfoldable pub soughtIn : Memory → Maps → Bool → ℕ → Cells → Found → Looked
+soughtIn m r user p k (Found.At i) = record { entry = Entry.Mapped (getD (k .list) i emptyCell .word); cells = k }
+soughtIn m r user p k Found.Missing = missed k (tagOf user p) (walkOf m r user p)
+
+-- Step 6: how an access gets the entry of its page, and what that leaves in the cells.
+unfoldable pub looked : Memory → Maps → Bool → ℕ → Cells → Looked
+looked m r user p k =
+    pick (execZero user p) (record { entry = execZeroEntry r; cells = k }) (soughtIn m r user p k (cellOf k (tagOf user p)))
+
+-- one cell, emptied if it holds the page
+unfoldable pub cellForgotten : ℕ → Cell → Cell
+cellForgotten tag h = pick (eqb (h .tag) tag) emptyCell h
+
+-- "the cell of the page at fault .. empties"; the counter stays
+unfoldable pub forgotten : Cells → ℕ → Cells
+forgotten k tag = record { list = map (cellForgotten tag) (k .list); counter = k .counter }

@@ -1,0 +1,205 @@
+-- An access as the sequence of its steps (01, "Order in one access"). Each piece is named after the step that it begins with.
+use Prim.Native.Nat.{ℕ}
+use mathlib.Core.Bool.{Bool, true, false}
+use lib.Dec.{eqb, ltb}
+use lib.ListN.{length, getD, set}
+use Rattle.rules.specs.Types.{Fetch, Core, Maps, Access, Register, Place, Part, Entry, Due, Fault, Ruling, Answer, Effect, Outcome, Job}
+use Rattle.rules.specs.Choice.{pick}
+use Rattle.rules.specs.Memory.{Memory, wordAt, evenOf}
+use Rattle.rules.specs.Unit.{withKtcs, withKept, withFetch}
+use Rattle.rules.specs.Status.{ktcsStored}
+use Rattle.rules.specs.Registers.{ktad, ktpc, ktps, placeOf, partOf, merged, registerWord}
+use Rattle.rules.specs.Maps.{unpaged, unpagedAt, pageOf, physicalAt, tagOf}
+use Rattle.rules.specs.Fetched.{isFetch, noted, fetchedWord}
+use Rattle.rules.specs.Steps.{wellShaped, dueOf, oddWord, judged, watches, publicPage, forbidden}
+use Rattle.rules.specs.Sequences.{violated, timedOut, statusStored, programCounterStored, firstReadDone, userStarted}
+use Rattle.rules.specs.Program.{Prog, done, ask, peek}
+
+-- Endings ----------------------------------------------------------------------------------------------------------------
+
+unfoldable pub outcome : Answer → Core → Effect → Outcome
+outcome a c e = record { answer = a; core = c; effect = e }
+
+-- answers 1, 2 and 3, which change nothing
+unfoldable pub refused : Core → Answer → Prog
+refused c a = done (outcome a c Effect.Keep)
+
+-- answers 4 to 8 and a paged 9: the sequence, and "the cell of the page at fault .. empties"; `inner` for a window's inner access
+unfoldable pub faulted : Job → Bool → ℕ → Fault → Prog
+faulted j inner tag f = done (outcome (Answer.Fault f) (violated (j .core) (j .q) inner f) (Effect.Forget tag))
+
+-- the page of the access's own address at fault
+unfoldable pub outerFault : Job → Fault → Prog
+outerFault j f = faulted j false (tagOf (j .core .ktcs .um) (pageOf (j .q .addr))) f
+
+-- Reading and storing at a place -----------------------------------------------------------------------------------------
+
+-- "Reads give the whole word at the even address."
+unfoldable pub readIn : Job → Register → (ℕ → Prog) → Prog
+readIn j Register.Ktmr f = peek Register.Ktmr f
+readIn j Register.Ktcs f = f (registerWord (j .core) (j .maps) Register.Ktcs)
+readIn j (Register.Kept i) f = f (registerWord (j .core) (j .maps) (Register.Kept i))
+readIn j Register.Ktum f = f (registerWord (j .core) (j .maps) Register.Ktum)
+readIn j Register.Ktem f = f (registerWord (j .core) (j .maps) Register.Ktem)
+readIn j (Register.Pad i) f = peek (Register.Pad i) f
+
+-- (No read goes to the window or nowhere: step 10 has ruled that out.)
+unfoldable pub readAt : Memory → Job → ℕ → Place → (ℕ → Prog) → Prog
+readAt m j at Place.Memory f = f (wordAt m (evenOf at))
+readAt m j at Place.Window f = f 0
+readAt m j at (Place.In g) f = readIn j g f
+readAt m j at Place.Nowhere f = f 0
+
+-- A store into a register, of the core: KTCS by its own rule, the six that remember by word and byte.
+unfoldable pub coreStored : Core → Part → ℕ → Register → Core
+coreStored c p v Register.Ktmr = c
+coreStored c p v Register.Ktcs = withKtcs c (ktcsStored (c .ktcs) p v)
+coreStored c p v (Register.Kept i) = withKept c (set (c .kept) i (merged p (getD (c .kept) i 0) v))
+coreStored c p v Register.Ktum = c
+coreStored c p v Register.Ktem = c
+coreStored c p v (Register.Pad i) = c
+
+-- A store into a register, of the rest: "A store into KTUM or KTEM, byte or word, empties all cells and sets the counter to 10o."
+-- "stores into it [KTMR] are accepted and do nothing"
+unfoldable pub registerEffect : Maps → Part → ℕ → Register → Effect
+registerEffect r p v Register.Ktmr = Effect.Keep
+registerEffect r p v Register.Ktcs = Effect.Keep
+registerEffect r p v (Register.Kept i) = Effect.Keep
+registerEffect r p v Register.Ktum = Effect.Reload (record { ktum = merged p (r .ktum) v; ktem = r .ktem })
+registerEffect r p v Register.Ktem = Effect.Reload (record { ktum = r .ktum; ktem = merged p (r .ktem) v })
+registerEffect r p v (Register.Pad i) = Effect.StorePad i p v
+
+-- a store into memory: "DATOB writes the low 8 bits of data."
+unfoldable pub memoryEffect : Part → ℕ → ℕ → Effect
+memoryEffect Part.Whole at v = Effect.StoreWord at v
+memoryEffect Part.Low at v = Effect.StoreByte at v
+memoryEffect Part.High at v = Effect.StoreByte at v
+
+-- "Then the store." (No store goes to the window or nowhere either.)
+unfoldable pub storedAt : Job → Part → ℕ → Place → Outcome
+storedAt j p at Place.Memory = outcome (Answer.Done 0 at) (j .core) (memoryEffect p at (j .q .datum))
+storedAt j p at Place.Window = outcome (Answer.Done 0 at) (j .core) Effect.Keep
+storedAt j p at (Place.In g) =
+    outcome (Answer.Done 0 at) (coreStored (j .core) p (j .q .datum) g) (registerEffect (j .maps) p (j .q .datum) g)
+storedAt j p at Place.Nowhere = outcome (Answer.Done 0 at) (j .core) Effect.Keep
+
+-- a read, by operations 0 and 1, or a store, by 2 and 3: what is done once all steps have passed, except for a fetch
+unfoldable pub transferred : Memory → Job → ℕ → Place → Prog
+transferred m j at pl =
+    pick (ltb (j .q .op) 2) (readAt m j at pl (λ w. done (outcome (Answer.Done w at) (j .core) Effect.Keep)))
+    (done (storedAt j (partOf (j .q .op) at) at pl))
+
+-- A fetch ----------------------------------------------------------------------------------------------------------------
+
+-- a fetch with answer 0, which leaves this flag
+unfoldable pub fetched : Job → ℕ → Bool → ℕ → Prog
+fetched j at flag w =
+    done (outcome (Answer.Done w at) (withFetch (j .core) (fetchedWord (j .core .fetch) w flag)) Effect.Keep)
+
+-- the flag after a paged fetch: "the flag to the page's public bit"; "never from a KT register"
+unfoldable pub flagAfter : Place → Fetch → Entry → Bool
+flagAfter Place.Memory f e = publicPage e
+flagAfter Place.Window f e = f .public
+flagAfter (Place.In g) f e = f .public
+flagAfter Place.Nowhere f e = f .public
+
+-- "11. For a fetch, the word (8)."
+unfoldable pub wordJudged : Job → ℕ → Place → Entry → ℕ → Prog
+wordJudged j at pl e w =
+    pick (forbidden (j .core) e w) (outerFault j (Fault.Forbidden w at)) (fetched j at (flagAfter pl (j .core .fetch) e) w)
+
+-- The unpaged access -----------------------------------------------------------------------------------------------------
+
+-- a fetch keeps the flag: it moves "only in normal paging"
+unfoldable pub unpagedReached : Memory → Job → ℕ → Place → Prog
+unpagedReached m j at pl =
+    pick (isFetch (j .q)) (readAt m j at pl (fetched j at (j .core .fetch .public))) (transferred m j at pl)
+
+unfoldable pub unpagedTimeOut : Job → Prog
+unpagedTimeOut j = done (outcome (Answer.Fault Fault.NoTarget) (timedOut (j .core) (j .q)) Effect.Keep)
+
+-- "10. Target at or beyond L and not a register above (9)."; the window "Unpaged ..: time-out at step 10"
+unfoldable pub unpagedTarget : Memory → Job → ℕ → Place → Prog
+unpagedTarget m j at Place.Memory = unpagedReached m j at Place.Memory
+unpagedTarget m j at Place.Window = unpagedTimeOut j
+unpagedTarget m j at (Place.In g) = unpagedReached m j at (Place.In g)
+unpagedTarget m j at Place.Nowhere = unpagedTimeOut j
+
+-- "3. Unpaged odd word (3).", then step 4
+unfoldable pub unpagedFrom : Memory → Core → Maps → Access → Prog
+unpagedFrom m c r q =
+    pick (oddWord (q .width) (q .addr)) (refused c Answer.UnpagedOdd)
+    (unpagedTarget m (record { q = q; core = noted c q; maps = r }) (unpagedAt (q .addr)) (placeOf (length m) (unpagedAt (q .addr))))
+
+-- The window's inner access ----------------------------------------------------------------------------------------------
+
+-- the address that the window goes on to, and its page's tag: "goes on as a user access to KTAD"
+unfoldable pub windowAddr : Job → ℕ
+windowAddr j = getD (j .core .kept) ktad 0
+
+unfoldable pub innerFault : Job → Fault → Prog
+innerFault j f = faulted j true (tagOf true (pageOf (windowAddr j))) f
+
+-- step 10 again; "window on window: time-out at step 10"
+unfoldable pub innerTarget : Memory → Job → ℕ → Place → Prog
+innerTarget m j at Place.Memory = transferred m j at Place.Memory
+innerTarget m j at Place.Window = innerFault j Fault.NoTarget
+innerTarget m j at (Place.In g) = transferred m j at (Place.In g)
+innerTarget m j at Place.Nowhere = innerFault j Fault.NoTarget
+
+-- steps 6 to 8 again, "with no privacy step"
+unfoldable pub innerRuled : Memory → Job → Ruling → Prog
+innerRuled m j (Ruling.Refused f) = innerFault j f
+innerRuled m j (Ruling.Granted page) =
+    innerTarget m j (physicalAt page (windowAddr j)) (placeOf (length m) (physicalAt page (windowAddr j)))
+
+-- step 5 again, and the inner page's entry
+unfoldable pub windowed : Memory → Job → Prog
+windowed m j =
+    pick (oddWord (j .q .width) (windowAddr j)) (innerFault j Fault.OddAddress)
+    (ask true (pageOf (windowAddr j)) (λ e. innerRuled m j (judged (j .q .op) false e)))
+
+-- The paged access -------------------------------------------------------------------------------------------------------
+
+-- a target that is there: step 11 for a fetch, the transfer otherwise
+unfoldable pub pagedReached : Memory → Job → ℕ → Entry → Place → Prog
+pagedReached m j at e pl = pick (isFetch (j .q)) (readAt m j at pl (wordJudged j at pl e)) (transferred m j at pl)
+
+-- "10. Target at or beyond L and not a register above (9)."; the window goes on, but "by fetch ..: time-out at step 10"
+unfoldable pub outerTarget : Memory → Job → ℕ → Entry → Place → Prog
+outerTarget m j at e Place.Memory = pagedReached m j at e Place.Memory
+outerTarget m j at e Place.Window = pick (isFetch (j .q)) (outerFault j Fault.NoTarget) (windowed m j)
+outerTarget m j at e (Place.In g) = pagedReached m j at e (Place.In g)
+outerTarget m j at e Place.Nowhere = outerFault j Fault.NoTarget
+
+-- what steps 6 to 9 say of the entry
+unfoldable pub outerRuled : Memory → Job → Entry → Ruling → Prog
+outerRuled m j e (Ruling.Refused f) = outerFault j f
+outerRuled m j e (Ruling.Granted page) =
+    outerTarget m j (physicalAt page (j .q .addr)) e (placeOf (length m) (physicalAt page (j .q .addr)))
+
+-- step 5, and step 6's question for the page's entry
+unfoldable pub pagedFrom : Memory → Job → Prog
+pagedFrom m j =
+    pick (oddWord (j .q .width) (j .q .addr)) (outerFault j Fault.OddAddress)
+    (ask (j .core .ktcs .um) (pageOf (j .q .addr)) (λ e. outerRuled m j e (judged (j .q .op) (watches (j .core .fetch) (j .q)) e)))
+
+-- The whole --------------------------------------------------------------------------------------------------------------
+
+-- a sequence access: answer 0, no physical address, "Memory and cells stay."
+unfoldable pub sequenced : ℕ → Core → Prog
+sequenced w c = done (outcome (Answer.Taken w) c Effect.Keep)
+
+-- what step 2 says: a due sequence access ends here, and the steps go on paged, after step 4, or unpaged
+unfoldable pub afterWait : Memory → Core → Maps → Access → Due → Prog
+afterWait m c r q Due.Steps =
+    pick (unpaged (c .ktcs .fcn) (q .state)) (unpagedFrom m c r q) (pagedFrom m (record { q = q; core = noted c q; maps = r }))
+afterWait m c r q Due.Late = refused c Answer.NotDue
+afterWait m c r q Due.StatusStore = sequenced 0 (statusStored c (q .datum))
+afterWait m c r q Due.ProgramCounterStore = sequenced 0 (programCounterStored c (q .addr) (q .datum))
+afterWait m c r q Due.FirstRead = sequenced (getD (c .kept) ktpc 0) (firstReadDone c)
+afterWait m c r q Due.SecondRead = sequenced (getD (c .kept) ktps 0) (userStarted c)
+
+-- steps 1 and 2, and on
+unfoldable pub accessed : Memory → Core → Maps → Access → Prog
+accessed m c r q = pick (wellShaped (length m) q) (afterWait m c r q (dueOf c q)) (refused c Answer.Misshapen)

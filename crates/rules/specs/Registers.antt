@@ -1,0 +1,108 @@
+-- The register table: which address is which register, and reading and storing by word and by byte (01, "Registers").
+use Prim.Native.Nat.{ℕ, suc, zero, _+_, _-_, _*_, _/_, _%_}
+use mathlib.Core.Bool.{Bool}
+use mathlib.Core.List.{List, [], _∷_, _++_, map}
+use lib.Dec.{eqb, ltb}
+use lib.ListN.{getD, set}
+use Rattle.rules.specs.Types.{Core, Maps, Cell, Cells, Found, Register, Place, Part}
+use Rattle.rules.specs.Choice.{pick}
+use Rattle.rules.specs.Memory.{evenOf}
+use Rattle.rules.specs.Unit.{cellCount, emptyCell}
+use Rattle.rules.specs.Status.{packed}
+
+-- where a list has x first, counting from i: the one search, for vectors, registers and cells
+unfoldable pub foundFrom : ℕ → List ℕ → ℕ → Found
+foundFrom i [] x = Found.Missing
+foundFrom i (y ∷ ys) x = pick (eqb x y) (Found.At i) (foundFrom (suc i) ys x)
+
+-- even addresses, n of them from a on
+unfoldable pub wordsFrom : ℕ → ℕ → List ℕ
+wordsFrom a zero = []
+wordsFrom a (suc n) = a ∷ wordsFrom (a + 2) n
+
+-- The table of addresses: KTWN 777572, KTMR 777574, KTCS 777576, KTIC 777600, KTSP 777602, KTPC 777604, KTPS 777606, KTAD 777610,
+-- KTDT 777612, KTUM 777614, KTEM 777616, and from 777620 the scratchpad words, one a cell.
+unfoldable pub registers : List ℕ
+registers = wordsFrom 0o777572 11 ++ wordsFrom 0o777620 cellCount
+
+-- the places in that table of the registers that are not counted from another
+abbrev pub firstKept : ℕ
+firstKept = 3
+
+abbrev pub firstPad : ℕ
+firstPad = 11
+
+-- which register has this number in the table
+unfoldable pub registerOf : ℕ → Place
+registerOf n =
+    pick (eqb n 0) Place.Window
+    (pick (eqb n 1) (Place.In Register.Ktmr)
+    (pick (eqb n 2) (Place.In Register.Ktcs)
+    (pick (ltb n 9) (Place.In (Register.Kept (n - firstKept)))
+    (pick (eqb n 9) (Place.In Register.Ktum)
+    (pick (eqb n 10) (Place.In Register.Ktem)
+    (Place.In (Register.Pad (n - firstPad))))))))
+
+unfoldable pub registerFound : Found → Place
+registerFound Found.Missing = Place.Nowhere
+registerFound (Found.At n) = registerOf n
+
+-- Where a physical address lies, with memory of this length: step 10's "at or beyond L and not a register above". L is at most 760000o,
+-- so no register lies in memory.
+unfoldable pub placeOf : ℕ → ℕ → Place
+placeOf len at = pick (ltb at len) Place.Memory (registerFound (foundFrom 0 registers (evenOf at)))
+
+-- "DATOB writes the low 8 bits of data", into the byte that its address names; every other store covers the word
+unfoldable pub partOf : ℕ → ℕ → Part
+partOf op at = pick (eqb op 3) (pick (eqb (at % 2) 0) Part.Low Part.High) Part.Whole
+
+-- "Other registers take words and bytes."
+unfoldable pub merged : Part → ℕ → ℕ → ℕ
+merged Part.Whole old v = v
+merged Part.Low old v = old / 256 * 256 + v % 256
+merged Part.High old v = v % 256 * 256 + old % 256
+
+-- the eight registers that only remember or hold a map, by 01's names: the places of the former, counted from KTIC
+abbrev pub ktic : ℕ
+ktic = 0
+
+abbrev pub ktsp : ℕ
+ktsp = 1
+
+abbrev pub ktpc : ℕ
+ktpc = 2
+
+abbrev pub ktps : ℕ
+ktps = 3
+
+abbrev pub ktad : ℕ
+ktad = 4
+
+abbrev pub ktdt : ℕ
+ktdt = 5
+
+-- What a read of a register gives that the cells do not take part in. (KTMR and the scratchpad words are read by `peeked`.)
+unfoldable pub registerWord : Core → Maps → Register → ℕ
+registerWord c r Register.Ktmr = 0
+registerWord c r Register.Ktcs = packed (c .ktcs)
+registerWord c r (Register.Kept i) = getD (c .kept) i 0
+registerWord c r Register.Ktum = r .ktum
+registerWord c r Register.Ktem = r .ktem
+registerWord c r (Register.Pad i) = 0
+
+-- "KTMR reads the counter times 256"; a scratchpad word reads what its cell holds, 0 where it is empty.
+unfoldable pub peeked : Cells → Register → ℕ
+peeked k Register.Ktmr = k .counter % 256 * 256
+peeked k Register.Ktcs = 0
+peeked k (Register.Kept i) = 0
+peeked k Register.Ktum = 0
+peeked k Register.Ktem = 0
+peeked k (Register.Pad i) = getD (k .list) i emptyCell .word
+
+-- one cell under a store: it "leaves the tag, and does nothing in an empty cell (H)"
+unfoldable pub cellStored : Cell → Part → ℕ → Cell
+cellStored h p v = pick (eqb (h .tag) 0) h (record { tag = h .tag; word = merged p (h .word) v })
+
+-- "A store into a scratchpad word leaves the tag, and does nothing in an empty cell (H)."
+unfoldable pub padStored : Cells → ℕ → Part → ℕ → Cells
+padStored k i p v = record { list = set (k .list) i (cellStored (getD (k .list) i emptyCell) p v); counter = k .counter }

@@ -1,0 +1,98 @@
+-- KTCS: its bits, what a store into it does, and its error flags (01, "Registers").
+use Prim.Native.Nat.{ℕ, _+_, _/_, _%_}
+use mathlib.Core.Bool.{Bool, true, false, not, _||_}
+use lib.Dec.{eqb}
+use Rattle.rules.specs.Types.{Ktcs, Part}
+
+-- the value of one bit
+unfoldable pub bitOf : Bool → ℕ → ℕ
+bitOf true v = v
+bitOf false v = 0
+
+-- the bit whose value is v, out of a word
+unfoldable pub bitIn : ℕ → ℕ → Bool
+bitIn w v = eqb (w / v % 2) 1
+
+-- "KTCS (H): FCN bits 1-0, SS 2, DS 3, UM 4, IU 5, RV 11, PV 12, WV 13, AV 14, IV 15; others read 0."
+unfoldable pub packed : Ktcs → ℕ
+packed s =
+    s .fcn % 4 + bitOf (s .ss) 4 + bitOf (s .ds) 8 + bitOf (s .um) 16 + bitOf (s .iu) 32 + bitOf (s .rv) 2048 + bitOf (s .pv) 4096
+    + bitOf (s .wv) 8192 + bitOf (s .av) 16384 + bitOf (s .iv) 32768
+
+-- and back
+unfoldable pub unpacked : ℕ → Ktcs
+unpacked w =
+    record {
+      fcn = w % 4;
+      ss = bitIn w 4;
+      ds = bitIn w 8;
+      um = bitIn w 16;
+      iu = bitIn w 32;
+      rv = bitIn w 2048;
+      pv = bitIn w 4096;
+      wv = bitIn w 8192;
+      av = bitIn w 16384;
+      iv = bitIn w 32768;
+    }
+
+-- KTCS with FCN, UM and IU changed, and nothing else
+unfoldable pub withModes : Ktcs → ℕ → Bool → Bool → Ktcs
+withModes s fcn um iu =
+    record {
+      fcn = fcn;
+      ss = s .ss;
+      ds = s .ds;
+      um = um;
+      iu = iu;
+      rv = s .rv;
+      pv = s .pv;
+      wv = s .wv;
+      av = s .av;
+      iv = s .iv;
+    }
+
+-- with SS and DS changed
+unfoldable pub withStates : Ktcs → Bool → Bool → Ktcs
+withStates s ss ds =
+    record {
+      fcn = s .fcn;
+      ss = ss;
+      ds = ds;
+      um = s .um;
+      iu = s .iu;
+      rv = s .rv;
+      pv = s .pv;
+      wv = s .wv;
+      av = s .av;
+      iv = s .iv;
+    }
+
+-- with the five error flags changed
+unfoldable pub withFlags : Ktcs → Bool → Bool → Bool → Bool → Bool → Ktcs
+withFlags s rv pv wv av iv =
+    record {
+      fcn = s .fcn;
+      ss = s .ss;
+      ds = s .ds;
+      um = s .um;
+      iu = s .iu;
+      rv = rv;
+      pv = pv;
+      wv = wv;
+      av = av;
+      iv = iv;
+    }
+
+-- "if bits 15-11 are clear"
+unfoldable pub flagsClear : Ktcs → Bool
+flagsClear s = not (s .rv || s .pv || s .wv || s .av || s .iv)
+
+-- FCN after a store: "a store that covers bits 1-0 sets FCN"
+unfoldable pub fcnStored : ℕ → Part → ℕ → ℕ
+fcnStored fcn Part.Whole v = v % 4
+fcnStored fcn Part.Low v = v % 4
+fcnStored fcn Part.High v = fcn
+
+-- "Any store into it, byte or word, clears IU and bits 15-11; a store that covers bits 1-0 sets FCN. Nothing else there is writable."
+unfoldable pub ktcsStored : Ktcs → Part → ℕ → Ktcs
+ktcsStored s p v = withFlags (withModes s (fcnStored (s .fcn) p v) (s .um) false) false false false false false

@@ -1,0 +1,300 @@
+// The types that everything speaks of: the unit's state, its calls and answers, and what the steps of an access hand on.
+// There is no code here. What these types mean is said in specs/, in the order of document 01.
+
+// The unit and its calls -----------------------------------------------------------------------------------------------
+
+// KTCS by its named fields. The packing into 16 bits is `packed` of specs/Status.antt.
+pub struct Ktcs {
+    // FCN, bits 1-0: 0 unpaged, 1 destination only, 2 normal paging, 3 start user.
+    pub fcn: u16,
+    // SS, bit 2: source state.
+    pub ss: bool,
+    // DS, bit 3: destination state.
+    pub ds: bool,
+    // UM, bit 4: user mode.
+    pub um: bool,
+    // IU, bit 5: interrupted user.
+    pub iu: bool,
+    // RV, bit 11: residency violation.
+    pub rv: bool,
+    // PV, bit 12: privacy violation.
+    pub pv: bool,
+    // WV, bit 13: write violation.
+    pub wv: bool,
+    // AV, bit 14: address violation.
+    pub av: bool,
+    // IV, bit 15: instruction violation.
+    pub iv: bool,
+}
+
+// The fetch memory: the last two fetched words, the counts since, each of which stops at 2, and the public flag.
+pub struct Fetch {
+    pub newer: u16,
+    pub older: u16,
+    pub datos: u16,
+    pub accesses: u16,
+    pub public: bool,
+}
+
+// What the unit is waiting for.
+pub enum Wait {
+    Nothing,
+    // The first SERVICE DATO, which brings the processor's status.
+    StatusDue,
+    // The second SERVICE DATO, which brings its program counter.
+    ProgramCounterDue,
+    // The second START read, which takes KTPS.
+    SecondReadDue,
+}
+
+// How many registers only remember: KTIC, KTSP, KTPC, KTPS, KTAD and KTDT, in the order of their addresses.
+pub const KEPT: usize = 6;
+
+// All of the unit but the map registers and the cells. The unit with no cells has this and the map registers alone.
+pub struct Core {
+    pub ktcs: Ktcs,
+    pub kept: [u16; KEPT],
+    pub wait: Wait,
+    pub fetch: Fetch,
+}
+
+// The two map registers, which stand apart because a store into one also empties the cells.
+pub struct Maps {
+    pub ktum: u16,
+    pub ktem: u16,
+}
+
+// A cell: the tag of the page that it holds, or 0 where it is empty, and its scratchpad word.
+pub struct Cell {
+    pub tag: u16,
+    pub word: u16,
+}
+
+// How many cells the unit has.
+pub const CELLS: usize = 8;
+
+// The cells and the replacement counter, which counts from 10 octal.
+pub struct Cells {
+    pub list: [Cell; CELLS],
+    pub counter: u16,
+}
+
+pub struct Unit {
+    pub core: Core,
+    pub maps: Maps,
+    pub cells: Cells,
+}
+
+// One access as the processor asks for it. Operation, state and width are numbers of any size.
+pub struct Access {
+    pub op: u64,
+    pub state: u64,
+    pub width: u64,
+    pub addr: u16,
+    pub datum: u16,
+}
+
+pub enum Call {
+    Access(Access),
+    Interrupt,
+    // The vector, a number of any size.
+    Trap(u64),
+    Init,
+}
+
+// The trap vectors, 4, 10, 14, 20, 24, 30 and 34 octal.
+pub const VECTORS: [u64; 7] = [0o4, 0o10, 0o14, 0o20, 0o24, 0o30, 0o34];
+
+// Where a searched list has what is looked for.
+pub enum Found {
+    At(usize),
+    Missing,
+}
+
+// Registers ------------------------------------------------------------------------------------------------------------
+
+// The addresses of KTWN, KTMR, KTCS, the six that only remember, KTUM, KTEM and the scratchpad words 10 to 17 octal.
+pub const REGISTERS: [usize; 19] = [
+    0o777572,
+    0o777574,
+    0o777576,
+    0o777600,
+    0o777602,
+    0o777604,
+    0o777606,
+    0o777610,
+    0o777612,
+    0o777614,
+    0o777616,
+    0o777620,
+    0o777622,
+    0o777624,
+    0o777626,
+    0o777630,
+    0o777632,
+    0o777634,
+    0o777636,
+];
+
+// A register that can be read and stored into. KTWN is none: what goes there goes on through the window.
+pub enum Register {
+    Ktmr,
+    Ktcs,
+    // One of the six that only remember, counted from KTIC.
+    Kept(usize),
+    Ktum,
+    Ktem,
+    // A scratchpad word, counted from 777620 octal.
+    Pad(usize),
+}
+
+// Where a physical address lies.
+pub enum Place {
+    Memory,
+    Window,
+    In(Register),
+    Nowhere,
+}
+
+// The part of a word that a store covers.
+pub enum Part {
+    Whole,
+    Low,
+    High,
+}
+
+// From address to entry ------------------------------------------------------------------------------------------------
+
+// What a walk of the maps comes to, with the addresses of the words that it read.
+pub enum Walk {
+    // The map word and where it stands.
+    Simple(u16, usize),
+    // The map word, where the pointer stands, and where the map word stands.
+    Shared(u16, usize, usize),
+    // A map word or pointer at or beyond the end of memory.
+    Off,
+}
+
+// What an access gets for its page.
+pub enum Entry {
+    // The walk timed out.
+    OffMap,
+    // Exec page 0: its physical page.
+    ExecZero(u16),
+    // A map word.
+    Mapped(u16),
+}
+
+// Order in one access --------------------------------------------------------------------------------------------------
+
+// What a fetched word is sorted into.
+pub enum Kind {
+    Jsr,
+    Rts,
+    Rti,
+    Trap,
+    Privileged,
+    EntryPoint,
+    Other,
+}
+
+// What step 2 says of an access.
+pub enum Due {
+    // Nothing is due: the steps go on.
+    Steps,
+    // Another access is due.
+    Late,
+    StatusStore,
+    ProgramCounterStore,
+    FirstRead,
+    SecondRead,
+}
+
+// The step from 5 to 11 at which an access is refused.
+pub enum Fault {
+    // Step 5.
+    OddAddress,
+    // Step 6.
+    NoMapWord,
+    // Step 7.
+    NotResident,
+    // Step 8.
+    NotWritable,
+    // Step 9.
+    NotPublic,
+    // Step 10.
+    NoTarget,
+    // Step 11, with the fetched word and its physical address.
+    Forbidden(u16, usize),
+}
+
+// What steps 6 to 9 say of an entry: the physical page, or the step that refused.
+pub enum Ruling {
+    Granted(u16),
+    Refused(Fault),
+}
+
+// What comes back ------------------------------------------------------------------------------------------------------
+
+pub enum Answer {
+    // An access is done: the word read, else 0, and the physical address.
+    Done(u16, usize),
+    // A sequence access, an interrupt, a trap or INIT is done: the word given, else 0.
+    Taken(u16),
+    // Step 1.
+    Misshapen,
+    // Step 2.
+    NotDue,
+    // Step 3.
+    UnpagedOdd,
+    // Steps 5 to 11.
+    Fault(Fault),
+}
+
+// The physical address that an answer gives, or none.
+pub enum Physical {
+    At(usize),
+    Nowhere,
+}
+
+// An answer as the host sees it.
+pub struct Shown {
+    pub number: u16,
+    pub datum: u16,
+    pub physical: Physical,
+}
+
+// What an access is to do once its steps have ruled. Nothing else changes memory, the cells or the map registers.
+pub enum Effect {
+    Keep,
+    // The cell of the page with this tag empties.
+    Forget(u16),
+    // The map registers take these values, all cells empty and the counter goes to 10 octal.
+    Reload(Maps),
+    // A word into memory, at an even address.
+    StoreWord(usize, u16),
+    // The low 8 bits of a word into one byte of memory.
+    StoreByte(usize, u16),
+    // A part of a word into the scratchpad word of a cell.
+    StorePad(usize, Part, u16),
+}
+
+// What the steps of a call decide: the answer, the unit's new core, and what is to be done.
+pub struct Outcome {
+    pub answer: Answer,
+    pub core: Core,
+    pub effect: Effect,
+}
+
+// An access under way: what was asked, and the unit as its steps see it.
+pub struct Job {
+    pub q: Access,
+    pub core: Core,
+    pub maps: Maps,
+}
+
+// The answer to a call, and the unit after it.
+pub struct Reply {
+    pub answer: Answer,
+    pub unit: Unit,
+}
