@@ -3,3 +3,4 @@ pub mod Opened
 pub mod Starred
 pub mod Worked
 pub mod MemoryLaws
+pub mod StatusLaws

@@ -2,14 +2,14 @@
 use Prim.Native.Nat.{ℕ}
 use mathlib.Core.Bool.{Bool}
 use mathlib.Core.List.{[]}
-use Rattle.rules.specs.Types.{Core, Maps, Cells, Unit, Access, Call, Answer, Effect, Outcome, Reply}
+use Rattle.rules.specs.Types.{Core, Maps, Cells, Unit, Access, Call, Answer, Effect, Outcome, Ran, Reply}
 use Rattle.rules.specs.Choice.{pick}
 use Rattle.rules.specs.Memory.{Memory, storeWord, storeByte}
 use Rattle.rules.specs.Unit.{cellCount, emptied, initCore, zeroUnit}
 use Rattle.rules.specs.Registers.{padStored}
 use Rattle.rules.specs.Maps.{forgotten}
 use Rattle.rules.specs.Sequences.{interrupted, trapped, vectorListed, idle}
-use Rattle.rules.specs.Program.{Prog, done, Ran, run}
+use Rattle.rules.specs.Program.{Prog, done, run}
 use Rattle.rules.specs.Order.{outcome, refused, sequenced, accessed}
 
 -- "Interrupt: ..", and 2 while waiting or in FCN 3

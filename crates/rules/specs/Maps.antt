@@ -4,7 +4,7 @@ use mathlib.Core.Bool.{Bool, true, false, not, _&&_, _||_}
 use mathlib.Core.List.{List, [], _∷_, map}
 use lib.Dec.{eqb, ltb}
 use lib.ListN.{length, getD, set}
-use Rattle.rules.specs.Types.{Maps, Cell, Cells, Found, Walk, Entry}
+use Rattle.rules.specs.Types.{Maps, Cell, Cells, Found, Walk, Entry, Looked}
 use Rattle.rules.specs.Choice.{pick}
 use Rattle.rules.specs.Memory.{Memory, wordAt}
 use Rattle.rules.specs.Status.{bitIn}
@@ -133,11 +133,6 @@ stepped n counter = pick (ltb counter (0o7 + n)) (counter + 1) 0o10
 unfoldable pub filled : Cells → ℕ → ℕ → Cells
 filled k tag w =
     record { list = set (k .list) (k .counter - 0o10) (record { tag = tag; word = w }); counter = stepped (length (k .list)) (k .counter) }
-
--- an entry, and the cells as the look-up leaves them
-pub record Looked : Type 0 where
-  pub entry : Entry
-  pub cells : Cells
 
 -- "A finished walk fills the cell .. A walk that times out fills nothing."
 unfoldable pub filledBy : Cells → ℕ → Walk → Cells

@@ -3,22 +3,17 @@
 use Prim.Native.Nat.{ℕ}
 use mathlib.Core.Bool.{Bool, true, false}
 use mathlib.Core.List.{List, [], _∷_}
-use Rattle.rules.specs.Types.{Maps, Cells, Register, Walk, Entry, Outcome}
+use Rattle.rules.specs.Types.{Maps, Cells, Register, Entry, Outcome, Ran}
 use Rattle.rules.specs.Choice.{pick}
 use Rattle.rules.specs.Memory.{Memory}
 use Rattle.rules.specs.Registers.{peeked}
-use Rattle.rules.specs.Maps.{Looked, looked, walked}
+use Rattle.rules.specs.Maps.{looked, walked}
 
 -- `done`: the steps have ruled. `ask`: step 6, for the entry of a user's or the exec's page. `peek`: what KTMR or a scratchpad word reads.
 pub data Prog : Type 0 where
   done : Outcome → Prog
   ask : Bool → ℕ → (Entry → Prog) → Prog
   peek : Register → (ℕ → Prog) → Prog
-
--- what a call decided, and the cells as its look-ups left them
-pub record Ran : Type 0 where
-  pub outcome : Outcome
-  pub cells : Cells
 
 -- the unit: an entry is looked up in the cells and walked for on a miss
 unfoldable pub run : Memory → Maps → Prog → Cells → Ran

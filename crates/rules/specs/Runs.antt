@@ -7,8 +7,8 @@ use Rattle.rules.specs.Types.{Core, Maps, Cells, Unit, Call, Walk, Answe
 use Rattle.rules.specs.Choice.{pick}
 use Rattle.rules.specs.Memory.{Memory, evenOf}
 use Rattle.rules.specs.Registers.{peeked}
-use Rattle.rules.specs.Maps.{Looked, looked, execZero, walkOf, readsOf, tagOf}
-use Rattle.rules.specs.Program.{Prog, done, ask, peek, Ran, run, plainRun}
+use Rattle.rules.specs.Maps.{looked, execZero, walkOf, readsOf, tagOf}
+use Rattle.rules.specs.Program.{Prog, done, ask, peek, run, plainRun}
 use Rattle.rules.specs.Calls.{After, called, callOf, mapsAfter, memoryAfter}
 
 -- A run ------------------------------------------------------------------------------------------------------------------

@@ -26,3 +26,5 @@ pub use Rattle.rules.specs.declared.Effect.{Effect}
 pub use Rattle.rules.specs.declared.Outcome.{Outcome}
 pub use Rattle.rules.specs.declared.Job.{Job}
 pub use Rattle.rules.specs.declared.Reply.{Reply}
+pub use Rattle.rules.specs.declared.Looked.{Looked}
+pub use Rattle.rules.specs.declared.Ran.{Ran}

@@ -185,6 +185,12 @@ pub enum Entry {
     Mapped(u16),
 }
 
+// What a look-up gives: the entry, and the cells as it leaves them.
+pub struct Looked {
+    pub entry: Entry,
+    pub cells: Cells,
+}
+
 // Order in one access --------------------------------------------------------------------------------------------------
 
 // What a fetched word is sorted into.
@@ -284,6 +290,12 @@ pub struct Outcome {
     pub answer: Answer,
     pub core: Core,
     pub effect: Effect,
+}
+
+// What a call decided, and the cells as its look-ups left them.
+pub struct Ran {
+    pub outcome: Outcome,
+    pub cells: Cells,
 }
 
 // An access under way: what was asked, and the unit as its steps see it.
