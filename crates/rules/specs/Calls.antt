@@ -1,8 +1,7 @@
 -- The four calls: what each decides, and the one place at which anything is done to memory, the cells and the map registers.
 use Prim.Native.Nat.{ℕ}
-use mathlib.Core.Bool.{Bool}
 use mathlib.Core.List.{[]}
-use Rattle.rules.specs.Types.{Core, Maps, Cells, Unit, Access, Call, Answer, Effect, Outcome, Ran, Reply}
+use Rattle.rules.specs.Types.{Core, Maps, Cells, Unit, Call, Answer, Effect, Ran, Reply}
 use Rattle.rules.specs.Choice.{pick}
 use Rattle.rules.specs.Memory.{Memory, storeWord, storeByte}
 use Rattle.rules.specs.Unit.{cellCount, emptied, initCore, zeroUnit}

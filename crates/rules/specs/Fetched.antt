@@ -1,9 +1,9 @@
 -- The fetch memory, the kinds of a fetched word, and step 4: the counts, KTIC, SS and DS (01, "Order in one access"; source 3.3.2.1).
 use Prim.Native.Nat.{ℕ, _+_}
-use mathlib.Core.Bool.{Bool, true, false, not, _&&_, _||_}
+use mathlib.Core.Bool.{Bool, false, _&&_, _||_}
 use lib.Dec.{eqb, leb, ltb}
 use lib.ListN.{set}
-use Rattle.rules.specs.Types.{Ktcs, Fetch, Core, Access, Kind, Job}
+use Rattle.rules.specs.Types.{Ktcs, Fetch, Core, Access, Kind}
 use Rattle.rules.specs.Choice.{pick}
 use Rattle.rules.specs.Status.{flagsClear, withStates}
 use Rattle.rules.specs.Unit.{withKtcs, withKept, withFetch}
@@ -68,11 +68,11 @@ destinationBy Kind.Privileged n d dato2 access2 = false
 destinationBy Kind.EntryPoint n d dato2 access2 = false
 destinationBy Kind.Other n d dato2 access2 = false
 
--- clause 1 of SS: "Any bus operation while in the SOURCE state during normal paging", and the others
+-- clause 1 of SS: "Any bus operation while in the "SOURCE" state during normal paging", and the others
 unfoldable pub sourceSet : Ktcs → Fetch → Access → Bool
 sourceSet s f q = (normal s q && eqb (q .state) 1) || sourceBy (kindOf (f .newer)) (normal s q) (destinationOnly s) (isDato q)
 
--- clause 1 of DS: "Any bus operation while in the DESTINATION state during normal or destination-only paging", and the others;
+-- clause 1 of DS: "Any bus operation while in the "DESTINATION" state during normal or destination - only paging", and the others;
 -- "the "second" is the one that takes its count from 1 to 2"
 unfoldable pub destinationSet : Ktcs → Fetch → Access → Bool
 destinationSet s f q =

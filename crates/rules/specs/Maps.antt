@@ -1,6 +1,6 @@
 -- From address to entry: unpaged or paged, page and offset, the maps, the walk, the cells (01, "From address to entry").
 use Prim.Native.Nat.{ℕ, _+_, _-_, _*_, _/_, _%_}
-use mathlib.Core.Bool.{Bool, true, false, not, _&&_, _||_}
+use mathlib.Core.Bool.{Bool, not, _&&_, _||_}
 use mathlib.Core.List.{List, [], _∷_, map}
 use lib.Dec.{eqb, ltb}
 use lib.ListN.{length, getD, set}
@@ -52,7 +52,7 @@ simpleCount r = pick (eqb (high7 r) 0) 128 (high7 r)
 unfoldable pub simple : ℕ → ℕ → Bool
 simple r p = ltb p (simpleCount r)
 
--- the word of page or entry p in the upper half of a physical page: "512·M+256+2p"
+-- the word of page or entry p in the upper half of a physical page: "512·M(KTEM)+256+2p", "512·M(KTUM)+256+2p", "512·m+256+2n"
 unfoldable pub upperAt : ℕ → ℕ → ℕ
 upperAt page p = 512 * page + 256 + 2 * p
 
@@ -86,7 +86,7 @@ unfoldable pub userWalk : Memory → Maps → ℕ → Walk
 userWalk m r p =
     pick (simple (r .ktum) p) (simpleWalk m (upperAt (low9 (r .ktum)) p)) (sharedWalk m (upperAt (low9 (r .ktum)) p))
 
--- the walk of a page; exec page 0 has none
+-- the walk of a page; it is not asked for exec page 0
 unfoldable pub walkOf : Memory → Maps → Bool → ℕ → Walk
 walkOf m r user p = pick user (userWalk m r p) (execWalk m r p)
 
@@ -125,11 +125,11 @@ tagIn h = h .tag
 unfoldable pub cellOf : Cells → ℕ → Found
 cellOf k tag = foundFrom 0 (map tagIn (k .list)) tag
 
--- "the counter steps 10o to 17o and round (H)"
+-- "then the counter steps 10o to 17o and round", the last being 7 more than there are cells
 unfoldable pub stepped : ℕ → ℕ → ℕ
 stepped n counter = pick (ltb counter (0o7 + n)) (counter + 1) 0o10
 
--- "A finished walk fills the cell the counter names, then the counter steps"
+-- "A finished walk fills the cell the counter names, then the counter steps". The first cell is named by 10o; a number past the last names none.
 unfoldable pub filled : Cells → ℕ → ℕ → Cells
 filled k tag w =
     record { list = set (k .list) (k .counter - 0o10) (record { tag = tag; word = w }); counter = stepped (length (k .list)) (k .counter) }

@@ -1,7 +1,7 @@
 -- An access as the sequence of its steps (01, "Order in one access"). Each piece is named after the step that it begins with.
 use Prim.Native.Nat.{ℕ}
 use mathlib.Core.Bool.{Bool, true, false}
-use lib.Dec.{eqb, ltb}
+use lib.Dec.{ltb}
 use lib.ListN.{length, getD, set}
 use Rattle.rules.specs.Types.{Fetch, Core, Maps, Access, Register, Place, Part, Entry, Due, Fault, Ruling, Answer, Effect, Outcome, Job}
 use Rattle.rules.specs.Choice.{pick}
@@ -34,7 +34,7 @@ outerFault j f = faulted j false (tagOf (j .core .ktcs .um) (pageOf (j .q .addr)
 
 -- Reading and storing at a place -----------------------------------------------------------------------------------------
 
--- "Reads give the whole word at the even address."
+-- a register read: KTMR and the scratchpad words from the cells, the others from the rest of the unit
 unfoldable pub readIn : Job → Register → (ℕ → Prog) → Prog
 readIn j Register.Ktmr f = peek Register.Ktmr f
 readIn j Register.Ktcs f = f (registerWord (j .core) (j .maps) Register.Ktcs)
@@ -43,7 +43,7 @@ readIn j Register.Ktum f = f (registerWord (j .core) (j .maps) Register.Ktum)
 readIn j Register.Ktem f = f (registerWord (j .core) (j .maps) Register.Ktem)
 readIn j (Register.Pad i) f = peek (Register.Pad i) f
 
--- (No read goes to the window or nowhere: step 10 has ruled that out.)
+-- "Reads give the whole word at the even address." (No read goes to the window or nowhere: step 10 has ruled that out.)
 unfoldable pub readAt : Memory → Job → ℕ → Place → (ℕ → Prog) → Prog
 readAt m j at Place.Memory f = f (wordAt m (evenOf at))
 readAt m j at Place.Window f = f 0

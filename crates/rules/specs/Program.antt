@@ -1,10 +1,8 @@
 -- How a call runs: the steps ask for entries and for what the cells show, and one interpreter answers by the cells, another by the walk alone.
 -- Nothing else tells the unit from the unit with no cells of demand 3.
 use Prim.Native.Nat.{ℕ}
-use mathlib.Core.Bool.{Bool, true, false}
-use mathlib.Core.List.{List, [], _∷_}
+use mathlib.Core.Bool.{Bool}
 use Rattle.rules.specs.Types.{Maps, Cells, Register, Entry, Outcome, Ran}
-use Rattle.rules.specs.Choice.{pick}
 use Rattle.rules.specs.Memory.{Memory}
 use Rattle.rules.specs.Registers.{peeked}
 use Rattle.rules.specs.Maps.{looked, walked}

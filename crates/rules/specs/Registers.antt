@@ -1,7 +1,6 @@
 -- The register table: which address is which register, and reading and storing by word and by byte (01, "Registers").
 use Prim.Native.Nat.{ℕ, suc, zero, _+_, _-_, _*_, _/_, _%_}
-use mathlib.Core.Bool.{Bool}
-use mathlib.Core.List.{List, [], _∷_, _++_, map}
+use mathlib.Core.List.{List, [], _∷_, _++_}
 use lib.Dec.{eqb, ltb}
 use lib.ListN.{getD, set}
 use Rattle.rules.specs.Types.{Core, Maps, Cell, Cells, Found, Register, Place, Part}
@@ -25,7 +24,7 @@ wordsFrom a (suc n) = a ∷ wordsFrom (a + 2) n
 unfoldable pub registers : List ℕ
 registers = wordsFrom 0o777572 11 ++ wordsFrom 0o777620 cellCount
 
--- the places in that table of the registers that are not counted from another
+-- the places in that table from which the six that remember, and the scratchpad words, are counted
 abbrev pub firstKept : ℕ
 firstKept = 3
 
@@ -62,7 +61,7 @@ merged Part.Whole old v = v
 merged Part.Low old v = old / 256 * 256 + v % 256
 merged Part.High old v = v % 256 * 256 + old % 256
 
--- the eight registers that only remember or hold a map, by 01's names: the places of the former, counted from KTIC
+-- the six registers that remember, by 01's names: their places, counted from KTIC
 abbrev pub ktic : ℕ
 ktic = 0
 

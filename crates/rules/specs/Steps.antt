@@ -1,8 +1,8 @@
 -- The tests of the eleven steps of an access, in their order; step 4, which tests nothing, is `noted` of Fetched.antt.
 use Prim.Native.Nat.{ℕ, _%_}
-use mathlib.Core.Bool.{Bool, true, false, not, _&&_, _||_}
+use mathlib.Core.Bool.{Bool, false, not, _&&_, _||_}
 use lib.Dec.{eqb, ltb}
-use Rattle.rules.specs.Types.{Ktcs, Fetch, Wait, Core, Access, Kind, Due, Entry, Fault, Ruling, Place}
+use Rattle.rules.specs.Types.{Fetch, Wait, Core, Access, Kind, Due, Entry, Fault, Ruling}
 use Rattle.rules.specs.Choice.{pick}
 use Rattle.rules.specs.Memory.{goodLength}
 use Rattle.rules.specs.Maps.{residentBit, publicBit, writeBit, low9}

@@ -1,11 +1,11 @@
 -- The unit's state, its emptying and its clearing (01, "The unit and its calls" and the end of "Registers").
 use Prim.Native.Nat.{ℕ}
-use mathlib.Core.Bool.{Bool, false}
+use mathlib.Core.Bool.{false}
 use mathlib.Core.List.{List, [], _∷_}
 use lib.ListN.{length, replicate}
-use Rattle.rules.specs.Types.{Ktcs, Fetch, Wait, Core, Maps, Cell, Cells, Unit}
+use Rattle.rules.specs.Types.{Ktcs, Fetch, Wait, Core, Cell, Cells, Unit}
 
--- The only place at which a rule says how many cells there are.
+-- How many cells the unit has: the only place at which a definition says so.
 abbrev pub cellCount : ℕ
 cellCount = 8
 
@@ -35,9 +35,6 @@ withKtcs c s = record { ktcs = s; kept = c .kept; wait = c .wait; fetch = c .fet
 
 unfoldable pub withKept : Core → List ℕ → Core
 withKept c r = record { ktcs = c .ktcs; kept = r; wait = c .wait; fetch = c .fetch }
-
-unfoldable pub withWait : Core → Wait → Core
-withWait c w = record { ktcs = c .ktcs; kept = c .kept; wait = w; fetch = c .fetch }
 
 unfoldable pub withFetch : Core → Fetch → Core
 withFetch c f = record { ktcs = c .ktcs; kept = c .kept; wait = c .wait; fetch = f }
