@@ -1,6 +1,35 @@
--- The promises that follow from the rules, and the worked numbers of document 01.
+-- What is proved of the rules: the promises of demands 1 and 3, the worked numbers of document 01, and laws that the code's proofs cite.
+-- Computation
 pub mod Opened
 pub mod Starred
 pub mod Worked
+-- Laws of the definitions
+pub mod Choices
+pub mod Lists
 pub mod MemoryLaws
 pub mod StatusLaws
+pub mod SearchLaws
+pub mod KindLaws
+pub mod RunLaws
+pub mod Walks
+pub mod Pages
+pub mod CellsLaws
+pub mod CoreLaws
+-- Demand 1
+pub mod Demand1
+pub mod Why
+pub mod Determined
+pub mod Kept
+pub mod Ended
+pub mod Interrupts
+-- Demand 3
+pub mod Demand3
+pub mod Always
+pub mod Endings
+pub mod Uses
+pub mod Visits
+pub mod Sound
+pub mod SameRun
+pub mod Wellformed
+pub mod Premises
+pub mod Versions

@@ -7,7 +7,7 @@ use lib.ListN.{replicate}
 use Rattle.rules.specs.Types.{Maps, Cells, Access, Call, Entry, Answer}
 use Rattle.rules.specs.Memory.{Memory}
 use Rattle.rules.specs.Unit.{cellCount}
-use Rattle.rules.specs.Maps.{unpagedAt, pageOf, physicalAt, high7, pointedAt, simpleWalk, sharedWalk, walkOf, walked, entryOf, looked, stepped, tagIn}
+use Rattle.rules.specs.Maps.{unpagedAt, pageOf, physicalAt, high7, pointedAt, wordWalk, pointerWalk, walkOf, walked, entryOf, looked, stepped, tagIn}
 use Rattle.rules.specs.Answers.{shown}
 use Rattle.rules.specs.Calls.{callOf, fresh}
 use Rattle.rules.proofs.Opened.{opened}
@@ -33,21 +33,21 @@ pub record Starred : Type 0 where
   -- "KTUM 004005o (N=4)"
   pub n-of-ktum : high7 0o004005 ≡ 4
   -- "user page 3 word at 005406o"
-  pub user-3 : (m : Memory) → walkOf m maps true 3 ≡ simpleWalk m 0o005406
+  pub user-3 : (m : Memory) → walkOf m maps true 3 ≡ wordWalk m 0o005406
   -- "page 4 pointer at 005410o"
-  pub user-4 : (m : Memory) → walkOf m maps true 4 ≡ sharedWalk m 0o005410
+  pub user-4 : (m : Memory) → walkOf m maps true 4 ≡ pointerWalk m 0o005410
   -- "pointer 003007o leads to 007406o"
   pub pointer : pointedAt 0o003007 ≡ 0o007406
   -- "KTEM N=4, M=1: exec page 3 at 001406o"
   pub n-of-ktem : high7 0o004001 ≡ 4
-  pub exec-3 : (m : Memory) → walkOf m maps false 3 ≡ simpleWalk m 0o001406
+  pub exec-3 : (m : Memory) → walkOf m maps false 3 ≡ wordWalk m 0o001406
   -- "exec page 4, with the KTUM above, at 005010o"
-  pub exec-4 : (m : Memory) → walkOf m maps false 4 ≡ simpleWalk m 0o005010
+  pub exec-4 : (m : Memory) → walkOf m maps false 4 ≡ wordWalk m 0o005010
   -- "KTEM M=1: exec 000777o is 001777o"
   pub zero-page : (m : Memory) (k : Cells) → looked m maps false (pageOf 0o000777) k .entry ≡ Entry.ExecZero 1
   pub zero-byte : physicalAt 1 0o000777 ≡ 0o001777
   -- "exec 001000o is walked"
-  pub one-walked : (m : Memory) → walked m maps false (pageOf 0o001000) ≡ entryOf (simpleWalk m 0o001402)
+  pub one-walked : (m : Memory) → walked m maps false (pageOf 0o001000) ≡ entryOf (wordWalk m 0o001402)
   -- "Unpaged byte DATI 157777o stays"
   pub stays : answerTo (replicate 65536 0) (record { op = 0; state = 1; width = 1; addr = 0o157777; datum = 0 }) ≡ Answer.Done 0 0o157777
   -- "160000o is 760000o"

@@ -99,5 +99,5 @@ unfoldable pub noted : Core → Access → Core
 noted c q = marked (withFetch c (counted q (c .fetch))) (c .fetch) q
 
 -- "A fetch with answer 0 updates it (counts go to 0, the flag to the page's public bit)"
-unfoldable pub fetchedWord : Fetch → ℕ → Bool → Fetch
-fetchedWord f w flag = record { newer = w; older = f .newer; datos = 0; accesses = 0; public = flag }
+unfoldable pub afterFetch : Fetch → ℕ → Bool → Fetch
+afterFetch f w flag = record { newer = w; older = f .newer; datos = 0; accesses = 0; public = flag }

@@ -65,26 +65,26 @@ unfoldable pub pointedAt : ℕ → ℕ
 pointedAt w = upperAt (low9 w) (high7 w)
 
 -- a map word that stands at a place: "A map word or pointer at or beyond L is a time-out."
-unfoldable pub simpleWalk : Memory → ℕ → Walk
-simpleWalk m at = pick (ltb at (length m)) (Walk.Simple (wordAt m at) at) Walk.Off
+unfoldable pub wordWalk : Memory → ℕ → Walk
+wordWalk m at = pick (ltb at (length m)) (Walk.Direct (wordAt m at) at) Walk.Off
 
 -- the map word that a pointer leads to, and "never a pointer again"
 unfoldable pub followed : Memory → ℕ → ℕ → Walk
-followed m from at = pick (ltb at (length m)) (Walk.Shared (wordAt m at) from at) Walk.Off
+followed m from at = pick (ltb at (length m)) (Walk.Pointed (wordAt m at) from at) Walk.Off
 
 -- "Other user pages: the word at that same place is a pointer, high 7 bits n, low 9 bits m; the map word is at 512·m+256+2n"
-unfoldable pub sharedWalk : Memory → ℕ → Walk
-sharedWalk m from = pick (ltb from (length m)) (followed m from (pointedAt (wordAt m from))) Walk.Off
+unfoldable pub pointerWalk : Memory → ℕ → Walk
+pointerWalk m from = pick (ltb from (length m)) (followed m from (pointedAt (wordAt m from))) Walk.Off
 
 -- "Exec simple: word at 512·M(KTEM)+256+2p. Other exec pages: word at 512·M(KTUM)+2p."
 unfoldable pub execWalk : Memory → Maps → ℕ → Walk
 execWalk m r p =
-    pick (simple (r .ktem) p) (simpleWalk m (upperAt (low9 (r .ktem)) p)) (simpleWalk m (lowerAt (low9 (r .ktum)) p))
+    pick (simple (r .ktem) p) (wordWalk m (upperAt (low9 (r .ktem)) p)) (wordWalk m (lowerAt (low9 (r .ktum)) p))
 
 -- "User simple: word at 512·M(KTUM)+256+2p. Other user pages: the word at that same place is a pointer"
 unfoldable pub userWalk : Memory → Maps → ℕ → Walk
 userWalk m r p =
-    pick (simple (r .ktum) p) (simpleWalk m (upperAt (low9 (r .ktum)) p)) (sharedWalk m (upperAt (low9 (r .ktum)) p))
+    pick (simple (r .ktum) p) (wordWalk m (upperAt (low9 (r .ktum)) p)) (pointerWalk m (upperAt (low9 (r .ktum)) p))
 
 -- the walk of a page; it is not asked for exec page 0
 unfoldable pub walkOf : Memory → Maps → Bool → ℕ → Walk
@@ -92,14 +92,14 @@ walkOf m r user p = pick user (userWalk m r p) (execWalk m r p)
 
 -- "Its map words are those the walk read, pointer included.": their addresses
 unfoldable pub readsOf : Walk → List ℕ
-readsOf (Walk.Simple w at) = at ∷ []
-readsOf (Walk.Shared w from at) = from ∷ at ∷ []
+readsOf (Walk.Direct w at) = at ∷ []
+readsOf (Walk.Pointed w from at) = from ∷ at ∷ []
 readsOf Walk.Off = []
 
 -- what a walk gives the access
 unfoldable pub entryOf : Walk → Entry
-entryOf (Walk.Simple w at) = Entry.Mapped w
-entryOf (Walk.Shared w from at) = Entry.Mapped w
+entryOf (Walk.Direct w at) = Entry.Mapped w
+entryOf (Walk.Pointed w from at) = Entry.Mapped w
 entryOf Walk.Off = Entry.OffMap
 
 -- "Exec page 0": the only page that has neither map word nor cell
@@ -136,8 +136,8 @@ filled k tag w =
 
 -- "A finished walk fills the cell .. A walk that times out fills nothing."
 unfoldable pub filledBy : Cells → ℕ → Walk → Cells
-filledBy k tag (Walk.Simple w at) = filled k tag w
-filledBy k tag (Walk.Shared w from at) = filled k tag w
+filledBy k tag (Walk.Direct w at) = filled k tag w
+filledBy k tag (Walk.Pointed w from at) = filled k tag w
 filledBy k tag Walk.Off = k
 
 -- a page that no cell holds

@@ -10,7 +10,7 @@ use Rattle.rules.specs.Unit.{withKtcs, withKept, withFetch}
 use Rattle.rules.specs.Status.{ktcsStored}
 use Rattle.rules.specs.Registers.{ktad, ktpc, ktps, placeOf, partOf, merged, registerWord}
 use Rattle.rules.specs.Maps.{unpaged, unpagedAt, pageOf, physicalAt, tagOf}
-use Rattle.rules.specs.Fetched.{isFetch, noted, fetchedWord}
+use Rattle.rules.specs.Fetched.{isFetch, noted, afterFetch}
 use Rattle.rules.specs.Steps.{wellShaped, dueOf, oddWord, judged, watches, publicPage, forbidden}
 use Rattle.rules.specs.Sequences.{violated, timedOut, statusStored, programCounterStored, firstReadDone, userStarted}
 use Rattle.rules.specs.Program.{Prog, done, ask, peek}
@@ -94,7 +94,7 @@ transferred m j at pl =
 -- a fetch with answer 0, which leaves this flag
 unfoldable pub fetched : Job → ℕ → Bool → ℕ → Prog
 fetched j at flag w =
-    done (outcome (Answer.Done w at) (withFetch (j .core) (fetchedWord (j .core .fetch) w flag)) Effect.Keep)
+    done (outcome (Answer.Done w at) (withFetch (j .core) (afterFetch (j .core .fetch) w flag)) Effect.Keep)
 
 -- the flag after a paged fetch: "the flag to the page's public bit"; "never from a KT register"
 unfoldable pub flagAfter : Place → Fetch → Entry → Bool

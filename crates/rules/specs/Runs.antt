@@ -141,21 +141,21 @@ noneInUse t = unused
 
 -- "A page comes into use when an access gets its entry." One that is in use stays as it came.
 unfoldable pub usedBy : Walk → Use → Use
-usedBy (Walk.Simple w at) unused = inUse (readsOf (Walk.Simple w at))
-usedBy (Walk.Simple w at) (inUse rs) = inUse rs
-usedBy (Walk.Simple w at) outdated = outdated
-usedBy (Walk.Shared w from at) unused = inUse (readsOf (Walk.Shared w from at))
-usedBy (Walk.Shared w from at) (inUse rs) = inUse rs
-usedBy (Walk.Shared w from at) outdated = outdated
+usedBy (Walk.Direct w at) unused = inUse (readsOf (Walk.Direct w at))
+usedBy (Walk.Direct w at) (inUse rs) = inUse rs
+usedBy (Walk.Direct w at) outdated = outdated
+usedBy (Walk.Pointed w from at) unused = inUse (readsOf (Walk.Pointed w from at))
+usedBy (Walk.Pointed w from at) (inUse rs) = inUse rs
+usedBy (Walk.Pointed w from at) outdated = outdated
 usedBy Walk.Off u = u
 
 -- the history with another word about one page
 unfoldable pub told : History → ℕ → Use → History
 told h tag u t = pick (eqb t tag) u (h t)
 
-unfoldable pub entered : History → List Visit → History
-entered h [] = h
-entered h (v ∷ vs) = entered (told h (v .tag) (usedBy (v .walk) (h (v .tag)))) vs
+unfoldable pub inUseAfter : History → List Visit → History
+inUseAfter h [] = h
+inUseAfter h (v ∷ vs) = inUseAfter (told h (v .tag) (usedBy (v .walk) (h (v .tag)))) vs
 
 unfoldable pub among : ℕ → List ℕ → Bool
 among a [] = false
@@ -177,7 +177,7 @@ historyAfter (Effect.StoreByte at v) h t = struck at (h t)
 historyAfter (Effect.StorePad i p v) h t = h t
 
 unfoldable pub heard : History → Deed → History
-heard h d = historyAfter (d .effect) (entered h (d .visits))
+heard h d = historyAfter (d .effect) (inUseAfter h (d .visits))
 
 -- The premises -----------------------------------------------------------------------------------------------------------
 

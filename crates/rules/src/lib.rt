@@ -103,7 +103,7 @@ pub enum Call {
 }
 
 // The trap vectors, 4, 10, 14, 20, 24, 30 and 34 octal.
-pub const VECTORS: [u64; 7] = [0o4, 0o10, 0o14, 0o20, 0o24, 0o30, 0o34];
+pub const VECTORS: [usize; 7] = [0o4, 0o10, 0o14, 0o20, 0o24, 0o30, 0o34];
 
 // Where a searched list has what is looked for.
 pub enum Found {
@@ -168,9 +168,9 @@ pub enum Part {
 // What a walk of the maps comes to, with the addresses of the words that it read.
 pub enum Walk {
     // The map word and where it stands.
-    Simple(u16, usize),
+    Direct(u16, usize),
     // The map word, where the pointer stands, and where the map word stands.
-    Shared(u16, usize, usize),
+    Pointed(u16, usize, usize),
     // A map word or pointer at or beyond the end of memory.
     Off,
 }

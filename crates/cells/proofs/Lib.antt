@@ -1,0 +1,2 @@
+-- What the proofs of the cells share.
+pub mod Laws

@@ -1,0 +1,21 @@
+-- A cell is filled from the store of one cell and the step of the counter.
+use borrow.Author.Needs.{needs}
+use Rattle.rules.specs.Maps.{filled}
+use Rattle.cells.proofs.filled.Statement.{statement}
+use Rattle.cells.proofs.filled.Tie as tie
+
+place-of-requires : tie.Need-place-of-requires
+place-of-requires c κs = search needs
+
+with-cell-requires : tie.Need-with-cell-requires
+with-cell-requires c κs = search needs
+
+next-counter-requires : tie.Need-next-counter-requires
+next-counter-requires c κs = search needs
+
+returns : tie.Need-returns
+unfolding filled
+returns c = rw (c .next-counter .ensures, c .before .with-cell .ensures, c .before .before .place-of .ensures)
+
+pub filled-spec : {M : Type 1} → statement M
+filled-spec = tie.close (tie.spec place-of-requires with-cell-requires next-counter-requires returns)

@@ -1,0 +1,16 @@
+-- As many empty cells as there were cells.
+use mathlib.Core.Path.{_≡_}
+use borrow.Author.Needs.{needs}
+use lib.ListN.{length}
+use Rattle.rules.specs.Unit.{emptyCell}
+use Rattle.cells.proofs.list_emptied.Statement.{statement}
+use Rattle.cells.proofs.list_emptied.Tie as tie
+
+returns : tie.Need-returns
+unfolding emptyCell
+returns c =
+    let eight : length (c .args .list) ≡ 8 = search needs in
+    rw eight
+
+pub list-emptied-spec : {M : Type 1} → statement M
+list-emptied-spec = tie.close (tie.spec returns)

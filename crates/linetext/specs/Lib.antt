@@ -1,0 +1,7 @@
+-- The definitions that the contracts cite.
+pub mod Pick
+pub mod Cut
+pub mod Number
+pub mod Line
+pub mod Reading
+pub mod Gather

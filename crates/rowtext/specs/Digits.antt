@@ -1,0 +1,22 @@
+-- Numbers as the output shows them, as lists of bytes; the digit d is the byte 48 + d.
+use Prim.Native.Nat.{ℕ, zero, suc, _+_, _/_, _%_}
+use mathlib.Core.List.{List, [], _∷_, _++_}
+use lib.Dec.{ltb}
+use Rattle.rowtext.specs.Pick.{pick}
+
+-- the last k octal digits of n
+unfoldable pub octals : ℕ → ℕ → List ℕ
+octals zero n = []
+octals (suc k) n = octals k (n / 8) ++ (48 + n % 8) ∷ []
+
+-- "six digits each": 18 bits
+unfoldable pub octal6 : ℕ → List ℕ
+octal6 n = octals 6 n
+
+-- the decimal digits of n, with no zero in front; `bound` only has to exceed n
+unfoldable pub decimals : ℕ → ℕ → List ℕ
+decimals zero n = []
+decimals (suc bound) n = pick (ltb n 10) ((48 + n) ∷ []) (decimals bound (n / 10) ++ (48 + n % 10) ∷ [])
+
+unfoldable pub decimal : ℕ → List ℕ
+decimal n = decimals (suc n) n

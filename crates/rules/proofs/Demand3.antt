@@ -1,0 +1,91 @@
+-- Demand 3 as statements about the rules, with the few definitions that they need beside those of specs/Runs.antt.
+use mathlib.Core.Path.{_≡_}
+use mathlib.Core.Bool.{Bool, true, false}
+use mathlib.Core.List.{List, _++_}
+use Prim.Native.Nat.{ℕ, _+_, _≤_, _<_}
+use lib.ListN.{length, getD}
+use Rattle.rules.specs.Types.{Wait, Core, Maps, Cell, Cells, Unit, Call, Entry}
+use Rattle.rules.specs.Memory.{Memory}
+use Rattle.rules.specs.Unit.{emptyCell}
+use Rattle.rules.specs.Maps.{looked, execZero, execZeroEntry, walkOf, entryOf, tagOf}
+use Rattle.rules.specs.Calls.{fresh}
+use Rattle.rules.specs.Runs.{Turn, unitAfter, seenAlong, Station, stationAfter, plainOf, plainAlong, History, noneInUse, isOutdated, meets, historyOf}
+
+-- a cell by its number, counted from 0; past the last there are empty ones
+abbrev pub cellAt : Cells → ℕ → Cell
+cellAt k i = getD (k .list) i emptyCell
+
+-- The first part: always. Proved in Wellformed.antt and Pages.antt ---------------------------------------------------------------
+
+-- n cells that are as they must be, whatever n is
+pub record CellsFit (n : ℕ) (k : Cells) : Type 0 where
+  -- the number of cells stays
+  pub number : length (k .list) ≡ n
+  -- no page stands in two cells
+  pub once : (i j : ℕ) → cellAt k i .tag ≡ cellAt k j .tag → (cellAt k i .tag ≡ 0 → ⊥) → i ≡ j
+  -- an empty cell holds nothing
+  pub empty : (i : ℕ) → cellAt k i .tag ≡ 0 → cellAt k i .word ≡ 0
+  -- a tag is that of a page, by 7 bits, with 128 for a user's
+  pub tags : (i : ℕ) → cellAt k i .tag < 256
+  -- the counter names a cell, the first of which is 10 octal
+  pub from : 0o10 ≤ k .counter
+  pub below : k .counter < 0o10 + n
+
+-- the wait agrees with FCN and UM
+abbrev pub WaitFits : Wait → ℕ → Bool → Type 0
+WaitFits Wait.Nothing fcn um = record {}
+WaitFits Wait.StatusDue fcn um = (um ≡ false) × (fcn ≡ 3 → ⊥)
+WaitFits Wait.ProgramCounterDue fcn um = (um ≡ false) × (fcn ≡ 3 → ⊥)
+WaitFits Wait.SecondReadDue fcn um = fcn ≡ 3
+
+pub record CoreFit (c : Core) : Type 0 where
+  pub fcn : c .ktcs .fcn < 4
+  pub wait : WaitFits (c .wait) (c .ktcs .fcn) (c .ktcs .um)
+  -- "each stops at 2", and a DATO is an access
+  pub datos : c .fetch .datos ≤ c .fetch .accesses
+  pub accesses : c .fetch .accesses ≤ 2
+
+pub record UnitFit (u : Unit) : Type 0 where
+  pub core : CoreFit (u .core)
+  pub cells : CellsFit (length (fresh .cells .list)) (u .cells)
+
+-- From a fresh unit, after any calls, each over a memory of its own: the cells, the counter, the counts and the wait are as they must be.
+abbrev pub AlwaysFit : Type 0
+AlwaysFit = (ts : List Turn) → UnitFit (unitAfter fresh ts)
+
+-- Exec page zero stands in no cell: its tag is the one that means empty, which no other page has, and a look-up of it gives physical page M of
+-- KTEM whatever the cells hold, and leaves them.
+pub record ExecZeroUncelled : Type 0 where
+  pub tag-zero : (user : Bool) (p : ℕ) → execZero user p ≡ true → tagOf user p ≡ 0
+  pub tag-other : (user : Bool) (p : ℕ) → execZero user p ≡ false → tagOf user p ≡ 0 → ⊥
+  pub look-up : (m : Memory) (r : Maps) (k : Cells) → looked m r false 0 k ≡ record { entry = execZeroEntry r; cells = k }
+
+-- The second part: on the premises. Proved in SameRun.antt -----------------------------------------------------------------------
+
+-- a cell that holds what the walk of its page now gives, so that this walk does not time out
+pub record HoldsItsPage (m : Memory) (r : Maps) (c : Cell) : Type 0 where
+  pub user : Bool
+  pub page : ℕ
+  pub below : page < 128
+  pub tag : c .tag ≡ tagOf user page
+  pub word : entryOf (walkOf m r user page) ≡ Entry.Mapped (c .word)
+
+-- where a run stands: each cell holds what the walk of its page now gives, unless it is empty or its page is outdated
+abbrev pub CellsTrueAt : Station → History → Type 0
+CellsTrueAt s h =
+    (i : ℕ) → (cellAt (s .unit .cells) i .tag ≡ 0 → ⊥) → isOutdated (h (cellAt (s .unit .cells) i .tag)) ≡ false
+    → HoldsItsPage (s .memory) (s .unit .maps) (cellAt (s .unit .cells) i)
+
+-- So it is at the end of a run that meets the premises.
+abbrev pub CellsTrue : Type 0
+CellsTrue =
+    (m : Memory) (cs : List Call) → meets m fresh noneInUse cs ≡ true → CellsTrueAt (stationAfter m fresh cs) (historyOf m fresh noneInUse cs)
+
+-- A run that meets the premises does so up to each of its calls: what is said of the end is said of every prefix.
+abbrev pub PrefixesMeet : Type 0
+PrefixesMeet = (m : Memory) (cs ds : List Call) → meets m fresh noneInUse (cs ++ ds) ≡ true → meets m fresh noneInUse cs ≡ true
+
+-- After each call of such a run the answer with its data and physical address, KTCS, the registers, the wait, the fetch memory and every byte of
+-- memory are those of the unit with no cells, which walks the maps on every access.
+abbrev pub SameAsPlain : Type 0
+SameAsPlain = (m : Memory) (cs : List Call) → meets m fresh noneInUse cs ≡ true → seenAlong m fresh cs ≡ plainAlong m (plainOf fresh) cs

@@ -1,0 +1,235 @@
+-- Field by field, what step 4, step 6, a time-out, a violation and the emptying of a cell leave alone.
+use Prim.Native.Nat.{ℕ, _<_}
+use mathlib.Core.Bool.{Bool, true, false, _&&_, true≢false, and-eq-true-iff}
+use mathlib.Core.Path.{_≡_, refl, sym, ap, _∙_}
+use mathlib.Core.Logic.{_≢_}
+use mathlib.Core.List.{List, map}
+use native.Mathlib.Omega.{arith}
+use lib.Dec.{eqb}
+use lib.ListN.{getD, set, length-set, length-map, List·getD-map}
+use lib.Seq.{getD-set-other}
+use borrow.Author.Tests.{eqb-true, ne-eqb}
+use Rattle.rules.specs.Types.{Ktcs, Fetch, Core, Maps, Cell, Cells, Access, Found, Walk, Entry, Fault}
+use Rattle.rules.specs.Choice.{pick}
+use Rattle.rules.specs.Memory.{Memory}
+use Rattle.rules.specs.Unit.{emptyCell, withKtcs, withKept, withFetch}
+use Rattle.rules.specs.Status.{withModes, withStates, withFlags, flagsClear}
+use Rattle.rules.specs.Registers.{ktic, ktad, ktdt}
+use Rattle.rules.specs.Maps.{unpaged, execZero, tagOf, cellOf, walkOf, entryOf, filled, filledBy, missed, soughtIn, looked, cellForgotten, forgotten}
+use Rattle.rules.specs.Fetched.{isFetch, counted, normal, statesMarked, instructionNoted, marked, noted}
+use Rattle.rules.specs.Sequences.{leftFor, flagged, startEnded, addressKept, linesKept, faultData, violated, timedOut}
+use Rattle.rules.proofs.Choices.{picked}
+use Rattle.rules.proofs.Demand1.{StatesOnly, Step4Keeps, Step4Leaves, Step6Keeps, Step6Leaves, TimeOutKeeps, ViolationKeeps, ForgottenKeeps}
+
+-- Step 4 -----------------------------------------------------------------------------------------------------------------
+
+states-only : (s : Ktcs) (ss ds : Bool) → StatesOnly s (withStates s ss ds)
+unfolding withStates
+states-only s ss ds = record { fcn = refl; um = refl; iu = refl; rv = refl; pv = refl; wv = refl; av = refl; iv = refl }
+
+states-same : (s : Ktcs) → StatesOnly s s
+states-same s = record { fcn = refl; um = refl; iu = refl; rv = refl; pv = refl; wv = refl; av = refl; iv = refl }
+
+statesMarked-keeps : (s : Ktcs) (f : Fetch) (q : Access) → StatesOnly s (statesMarked s f q)
+unfolding statesMarked
+statesMarked-keeps s f q =
+    picked (StatesOnly s) (isFetch q) _ _ (λ e. picked (StatesOnly s) (normal s q) _ _ (λ n. states-only s false false) (λ n. states-same s))
+    (λ e. states-only s _ _)
+
+-- an unpaged access is none of normal paging
+unpaged-fcn : (fcn state : ℕ) (b : Bool) → eqb fcn 0 ≡ b → unpaged fcn state ≡ true → fcn < 2
+unfolding unpaged
+unpaged-fcn fcn state true z e = omega (arith, eqb-true fcn 0 z)
+unpaged-fcn fcn state false z e = omega (arith, eqb-true fcn 1 (and-eq-true-iff (eqb fcn 1) _ .0 (rw z at e) .0))
+
+unpaged-not-normal : (s : Ktcs) (q : Access) → unpaged (s .fcn) (q .state) ≡ true → normal s q ≡ false
+unfolding normal
+unpaged-not-normal s q e =
+    let l : s .fcn < 2 = unpaged-fcn (s .fcn) (q .state) (eqb (s .fcn) 0) refl e in
+    rw (ne-eqb (s .fcn) 2 (omega arith), ne-eqb (s .fcn) 3 (omega arith))
+
+module _ (q : Access) (c : Core) where
+  -- another fetch memory, which tells itself from the old one by the counts
+  counts-only :
+      (f : Fetch) → f .newer ≡ c .fetch .newer → f .older ≡ c .fetch .older → f .public ≡ c .fetch .public
+      → Step4Keeps q c (withFetch c f)
+  unfolding withFetch
+  counts-only f n o p =
+      record {
+        ktcs = states-same (c .ktcs);
+        registers = λ i n. refl;
+        unpaged-registers = λ e. refl;
+        wait = refl;
+        newer = n;
+        older = o;
+        public = p;
+      }
+
+  counted-keeps : Step4Keeps q c (withFetch c (counted q (c .fetch)))
+  unfolding counted
+  counted-keeps =
+      picked (λ f. Step4Keeps q c (withFetch c f)) (isFetch q) _ _ (λ e. counts-only _ refl refl refl) (λ e. counts-only _ refl refl refl)
+
+  -- KTIC is taken in normal paging only
+  instruction-only : (d : Core) → normal (c .ktcs) q ≡ true → Step4Keeps q c d → Step4Keeps q c (withKept d (set (d .kept) ktic (q .addr)))
+  unfolding withKept
+  instruction-only d e h =
+      record {
+        ktcs = h .ktcs;
+        registers = λ i n. rw getD-set-other (h .registers i n);
+        unpaged-registers = λ n. let no : normal (c .ktcs) q ≡ false = unpaged-not-normal (c .ktcs) q n in absurd (true≢false (cc));
+        wait = h .wait;
+        newer = h .newer;
+        older = h .older;
+        public = h .public;
+      }
+
+  status-keeps : (d : Core) (s : Ktcs) → StatesOnly (c .ktcs) s → Step4Keeps q c d → Step4Keeps q c (withKtcs d s)
+  unfolding withKtcs
+  status-keeps d s t h =
+      record {
+        ktcs = t;
+        registers = h .registers;
+        unpaged-registers = h .unpaged-registers;
+        wait = h .wait;
+        newer = h .newer;
+        older = h .older;
+        public = h .public;
+      }
+
+pub step4-leaves : Step4Leaves
+unfolding noted marked instructionNoted withFetch
+step4-leaves c q =
+    picked (Step4Keeps q c) (flagsClear (c .ktcs)) _ _
+    (λ e. status-keeps q c _ _ (statesMarked-keeps (c .ktcs) (c .fetch) q)
+    (picked (Step4Keeps q c) (isFetch q && normal (c .ktcs) q) _ _
+    (λ n. instruction-only q c _ (and-eq-true-iff (isFetch q) (normal (c .ktcs) q) .0 n .1) (counted-keeps q c)) (λ n. counted-keeps q c)))
+    (λ e. counted-keeps q c)
+
+-- Step 6 -----------------------------------------------------------------------------------------------------------------
+
+cells-same : (k : Cells) (e : Entry) → Step6Keeps k (record { entry = e; cells = k })
+cells-same k e = record { count = refl; others = λ i n. refl; timed-out = λ h. refl }
+
+filled-keeps : (k : Cells) (tag w : ℕ) → Step6Keeps k (record { entry = Entry.Mapped w; cells = filled k tag w })
+unfolding filled
+filled-keeps k tag w = record { count = rw length-set; others = λ i n. rw getD-set-other; timed-out = λ h. cc }
+
+missed-keeps : (k : Cells) (tag : ℕ) (w : Walk) → Step6Keeps k (missed k tag w)
+unfolding missed entryOf filledBy
+missed-keeps k tag (Walk.Direct w at) = filled-keeps k tag w
+missed-keeps k tag (Walk.Pointed w from at) = filled-keeps k tag w
+missed-keeps k tag Walk.Off = cells-same k Entry.OffMap
+
+sought-keeps : (m : Memory) (r : Maps) (user : Bool) (p : ℕ) (k : Cells) (x : Found) → Step6Keeps k (soughtIn m r user p k x)
+unfolding soughtIn
+sought-keeps m r user p k (Found.At i) = cells-same k _
+sought-keeps m r user p k Found.Missing = missed-keeps k (tagOf user p) (walkOf m r user p)
+
+pub step6-leaves : Step6Leaves
+unfolding looked
+step6-leaves m r user p k =
+    picked (Step6Keeps k) (execZero user p) _ _ (λ e. cells-same k _) (λ e. sought-keeps m r user p k (cellOf k (tagOf user p)))
+
+-- A time-out and a violation ---------------------------------------------------------------------------------------------
+
+lines-keep :
+    (kept : List ℕ) (window : Bool) (a d i : ℕ) → i ≢ ktad → i ≢ ktdt → getD (linesKept kept window a d) i 0 ≡ getD kept i 0
+unfolding linesKept addressKept
+lines-keep kept window a d i n₁ n₂ =
+    rw getD-set-other (picked (λ (l : List ℕ). getD l i 0 ≡ getD kept i 0) window _ _ (λ e. refl) (λ e. rw getD-set-other))
+
+inner-lines-keep : (kept : List ℕ) (window : Bool) (a d : ℕ) → window ≡ true → getD (linesKept kept window a d) ktad 0 ≡ getD kept ktad 0
+unfolding linesKept addressKept pick
+inner-lines-keep kept window a d e = let n : ktad ≢ ktdt = omega arith in rw (e, getD-set-other)
+
+pub timed-out-keeps :
+    (c : Core) (q : Access) → unpaged (c .ktcs .fcn) (q .state) ≡ true → TimeOutKeeps q c (timedOut (noted c q) q)
+unfolding timedOut withKept
+timed-out-keeps c q e =
+    let h : Step4Keeps q c (noted c q) = step4-leaves c q in
+    record {
+      ktcs = refl;
+      states = h .ktcs;
+      registers = λ i n₁ n₂. lines-keep (noted c q .kept) false _ _ i n₁ n₂ ∙ rw (h .unpaged-registers e);
+      wait = h .wait;
+      fetch = refl;
+      newer = h .newer;
+      older = h .older;
+      public = h .public;
+    }
+
+-- KTCS but for the flags, of which those that stood still stand
+record FlagsOnly (s t : Ktcs) : Type 0 where
+  fcn : t .fcn ≡ s .fcn
+  ss : t .ss ≡ s .ss
+  ds : t .ds ≡ s .ds
+  rv : s .rv ≡ true → t .rv ≡ true
+  pv : s .pv ≡ true → t .pv ≡ true
+  wv : s .wv ≡ true → t .wv ≡ true
+  av : s .av ≡ true → t .av ≡ true
+  iv : s .iv ≡ true → t .iv ≡ true
+
+flags-only :
+    (s : Ktcs) {rv pv wv av iv : Bool} → (s .rv ≡ true → rv ≡ true) → (s .pv ≡ true → pv ≡ true) → (s .wv ≡ true → wv ≡ true)
+    → (s .av ≡ true → av ≡ true) → (s .iv ≡ true → iv ≡ true) → FlagsOnly s (withFlags s rv pv wv av iv)
+unfolding withFlags
+flags-only s rv pv wv av iv = record { fcn = refl; ss = refl; ds = refl; rv = rv; pv = pv; wv = wv; av = av; iv = iv }
+
+flags-same : (s : Ktcs) → FlagsOnly s s
+flags-same s = record { fcn = refl; ss = refl; ds = refl; rv = λ h. h; pv = λ h. h; wv = λ h. h; av = λ h. h; iv = λ h. h }
+
+flagged-keeps : (s : Ktcs) (f : Fault) → FlagsOnly s (flagged s f)
+unfolding flagged
+flagged-keeps s Fault.OddAddress = flags-only s (λ h. h) (λ h. h) (λ h. h) (λ h. refl) (λ h. h)
+flagged-keeps s Fault.NoMapWord = flags-same s
+flagged-keeps s Fault.NotResident = flags-only s (λ h. refl) (λ h. h) (λ h. h) (λ h. h) (λ h. h)
+flagged-keeps s Fault.NotWritable = flags-only s (λ h. h) (λ h. h) (λ h. refl) (λ h. h) (λ h. h)
+flagged-keeps s Fault.NotPublic = flags-only s (λ h. h) (λ h. refl) (λ h. h) (λ h. h) (λ h. h)
+flagged-keeps s Fault.NoTarget = flags-same s
+flagged-keeps s (Fault.Forbidden w at) = flags-only s (λ h. h) (λ h. h) (λ h. h) (λ h. h) (λ h. refl)
+
+pub violated-keeps : (c : Core) (q : Access) (window : Bool) (f : Fault) → ViolationKeeps q window c (violated (noted c q) q window f)
+unfolding violated leftFor startEnded withModes pick
+violated-keeps c q window f =
+    let h : Step4Keeps q c (noted c q) = step4-leaves c q in
+    let s : FlagsOnly (startEnded (noted c q .ktcs)) (flagged (startEnded (noted c q .ktcs)) f) = flagged-keeps (startEnded (noted c q .ktcs)) f in
+    let lines : (i : ℕ) → i ≢ ktad → i ≢ ktdt → getD (violated (noted c q) q window f .kept) i 0 ≡ getD (noted c q .kept) i 0 =
+    lines-keep (noted c q .kept) window (q .addr) (faultData q f) in
+    record {
+      fcn = λ e. s .fcn ∙ rw (h .ktcs .fcn, e);
+      ss = s .ss;
+      ds = s .ds;
+      rv = λ e. s .rv (h .ktcs .rv ∙ e);
+      pv = λ e. s .pv (h .ktcs .pv ∙ e);
+      wv = λ e. s .wv (h .ktcs .wv ∙ e);
+      av = λ e. s .av (h .ktcs .av ∙ e);
+      iv = λ e. s .iv (h .ktcs .iv ∙ e);
+      instruction = lines ktic (omega arith) (omega arith);
+      registers = λ i n n₁ n₂. lines i n₁ n₂ ∙ h .registers i n;
+      inner-address =
+          λ e. inner-lines-keep (noted c q .kept) window (q .addr) (faultData q f) e ∙ h .registers ktad (omega arith);
+    }
+
+-- The emptying of a cell -------------------------------------------------------------------------------------------------
+
+empty-forgotten : (tag : ℕ) → cellForgotten tag emptyCell ≡ emptyCell
+unfolding cellForgotten
+empty-forgotten tag = picked (λ (h : Cell). h ≡ emptyCell) (eqb (emptyCell .tag) tag) _ _ (λ e. refl) (λ e. refl)
+
+other-forgotten : (tag : ℕ) (h : Cell) → h .tag ≢ tag → cellForgotten tag h ≡ h
+unfolding cellForgotten pick
+other-forgotten tag h n = rw (ne-eqb (h .tag) tag n)
+
+pub forgotten-keeps : (k : Cells) (tag : ℕ) → ForgottenKeeps tag k (forgotten k tag)
+unfolding forgotten
+forgotten-keeps k tag =
+    record {
+      counter = refl;
+      count = length-map (k .list) (cellForgotten tag);
+      others =
+          λ i n.
+          ap (getD (map (cellForgotten tag) (k .list)) i) (sym (empty-forgotten tag))
+          ∙ List·getD-map (cellForgotten tag) (k .list) i emptyCell
+          ∙ other-forgotten tag (getD (k .list) i emptyCell) n;
+    }

@@ -1,0 +1,76 @@
+//! Counts of what a generated input reaches, and their table.
+
+use std::collections::BTreeMap;
+use std::fmt;
+
+#[derive(Default)]
+pub struct Stats {
+    counts: BTreeMap<String, u64>,
+    answers: BTreeMap<&'static str, [u64; 10]>,
+}
+
+impl Stats {
+    pub fn bad_line(&mut self) {
+        self.count("lines: BAD");
+    }
+
+    pub fn word_line(&mut self) {
+        self.count("lines: W");
+    }
+
+    pub(super) fn count(&mut self, name: impl Into<String>) {
+        *self.counts.entry(name.into()).or_default() += 1;
+    }
+
+    pub(super) fn count_if(&mut self, holds: bool, name: impl Into<String>) {
+        if holds {
+            self.count(name);
+        }
+    }
+
+    /// One answer in a mode of the unit.
+    pub(super) fn answer(&mut self, mode: &'static str, answer: u8) {
+        self.answers.entry(mode).or_default()[usize::from(answer)] += 1;
+    }
+
+    /// How often an answer was given.
+    pub fn answered(&self, answer: u8) -> u64 {
+        self.answers.values().map(|row| row[usize::from(answer)]).sum()
+    }
+
+    /// How often a named thing was counted.
+    pub fn counted(&self, name: &str) -> u64 {
+        self.counts.get(name).copied().unwrap_or(0)
+    }
+
+    fn write_answers(&self, to: &mut fmt::Formatter) -> fmt::Result {
+        write!(to, "{:<22}", "answers")?;
+        for answer in 0..10 {
+            write!(to, "{answer:>7}")?;
+        }
+        writeln!(to)?;
+        for (mode, row) in &self.answers {
+            write!(to, "{mode:<22}")?;
+            for count in row {
+                write!(to, "{count:>7}")?;
+            }
+            writeln!(to)?;
+        }
+        write!(to, "{:<22}", "all")?;
+        for answer in 0..10 {
+            write!(to, "{:>7}", self.answered(answer))?;
+        }
+        writeln!(to)
+    }
+}
+
+impl fmt::Display for Stats {
+    fn fmt(&self, to: &mut fmt::Formatter) -> fmt::Result {
+        self.write_answers(to)?;
+        writeln!(to)?;
+        for (name, count) in &self.counts {
+            writeln!(to, "{count:>8}  {name}")?;
+        }
+        Ok(())
+    }
+}

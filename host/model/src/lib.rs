@@ -1,0 +1,18 @@
+//! A plain model of the KT11-B paging unit, written from its rules alone, for comparison and as a speed baseline.
+
+mod access;
+mod instruction;
+mod maps;
+mod registers;
+mod state;
+
+pub mod bench;
+pub mod generate;
+
+pub use instruction::Kind;
+pub use maps::{map_page, pointed_place, route, simple_pages, Route};
+pub use registers::Target;
+pub use state::{
+    FetchMemory, Reply, Unit, Wait, AV, DS, ERRORS, FCN, IU, IV, KTAD, KTDT, KTEM, KTIC, KTPC,
+    KTPS, KTSP, KTUM, PV, RV, SS, UM, VECTORS, WV,
+};

@@ -1,0 +1,164 @@
+//! From a page to its entry: the map registers, the walk, and the cells.
+
+use crate::registers::word_at;
+use crate::state::{Unit, FIRST_CELL, KTEM, KTUM};
+
+/// Map word bits: 15 resident, 14 public, 13 write-enabled.
+const RESIDENT: u16 = 0o100000;
+const PUBLIC: u16 = 0o040000;
+const WRITE_ENABLED: u16 = 0o020000;
+
+/// Where the walk for a page begins.
+#[derive(Clone, Copy, PartialEq, Eq, Debug)]
+pub enum Route {
+    /// Exec page 0: physical page M of KTEM.
+    ExecZero,
+    /// The place of an exec page's map word in KTEM's page.
+    ExecSimple(u32),
+    /// The place of an exec page's map word in KTUM's page.
+    ExecPerProcess(u32),
+    /// The place of a user page's map word.
+    UserSimple(u32),
+    /// The place of a user page's pointer.
+    UserShared(u32),
+}
+
+/// What an access gets for its page.
+#[derive(Clone, Copy, PartialEq, Eq, Debug)]
+pub(crate) struct Entry {
+    pub word: u16,
+    pub exec_zero: bool,
+}
+
+impl Entry {
+    #[inline]
+    pub fn resident(&self) -> bool {
+        self.word & RESIDENT != 0
+    }
+
+    #[inline]
+    pub fn public(&self) -> bool {
+        self.word & PUBLIC != 0
+    }
+
+    #[inline]
+    pub fn write_enabled(&self) -> bool {
+        self.word & WRITE_ENABLED != 0
+    }
+
+    #[inline]
+    pub fn physical(&self, address: u16) -> u32 {
+        page_base(self.word) + u32::from(address & 0o777)
+    }
+}
+
+/// The first address of the physical page in a word's low 9 bits.
+#[inline]
+fn page_base(word: u16) -> u32 {
+    u32::from(word & 0o777) * 512
+}
+
+/// N of a map register; 0 counts as 128.
+#[inline]
+pub fn simple_pages(register: u16) -> u16 {
+    match register >> 9 {
+        0 => 128,
+        n => n,
+    }
+}
+
+/// Where the walk for a page begins under these map registers.
+#[inline]
+pub fn route(ktum: u16, ktem: u16, user: bool, page: u16) -> Route {
+    let high = 256 + 2 * u32::from(page);
+    if user && page < simple_pages(ktum) {
+        Route::UserSimple(page_base(ktum) + high)
+    } else if user {
+        Route::UserShared(page_base(ktum) + high)
+    } else if page == 0 {
+        Route::ExecZero
+    } else if page < simple_pages(ktem) {
+        Route::ExecSimple(page_base(ktem) + high)
+    } else {
+        // "no 256": the exec-per-process words are in the low half.
+        Route::ExecPerProcess(page_base(ktum) + 2 * u32::from(page))
+    }
+}
+
+/// The place of the map word a pointer leads to.
+#[inline]
+pub fn pointed_place(pointer: u16) -> u32 {
+    page_base(pointer) + 256 + 2 * u32::from(pointer >> 9)
+}
+
+/// The page a map register names as a part of the memory, or an empty part if it is not wholly there.
+pub fn map_page(memory: &[u8], map_register: u16) -> &[u8] {
+    let base = page_base(map_register) as usize;
+    memory.get(base..base + 512).unwrap_or(&[])
+}
+
+/// 128 for user plus the page; exec page 0 would be 0, which means empty.
+#[inline]
+pub(crate) fn tag_of(user: bool, address: u16) -> u8 {
+    let page = (address >> 9) as u8;
+    if user {
+        0o200 | page
+    } else {
+        page
+    }
+}
+
+impl Unit {
+    /// Step 6: the entry by hit or walk, or none for a time-out.
+    #[inline]
+    pub(crate) fn entry(&mut self, memory: &[u8], user: bool, address: u16) -> Option<Entry> {
+        let tag = tag_of(user, address);
+        if tag == 0 {
+            let word = RESIDENT | WRITE_ENABLED | (self.registers[KTEM] & 0o777);
+            return Some(Entry { word, exec_zero: true });
+        }
+        if let Some(cell) = self.hit(tag) {
+            return Some(Entry { word: self.words[cell], exec_zero: false });
+        }
+        let word = self.walk(memory, user, address >> 9)?;
+        self.fill(tag, word);
+        Some(Entry { word, exec_zero: false })
+    }
+
+    /// The cell that holds this tag.
+    #[inline]
+    pub(crate) fn hit(&self, tag: u8) -> Option<usize> {
+        if self.has_cells {
+            self.tags.iter().position(|&held| held == tag)
+        } else {
+            None
+        }
+    }
+
+    /// A map word or pointer at or beyond L is a time-out.
+    #[inline]
+    fn walk(&self, memory: &[u8], user: bool, page: u16) -> Option<u16> {
+        match route(self.registers[KTUM], self.registers[KTEM], user, page) {
+            Route::ExecZero => None,
+            Route::ExecSimple(place) | Route::ExecPerProcess(place) | Route::UserSimple(place) => {
+                word_at(memory, place as usize)
+            }
+            Route::UserShared(place) => {
+                let pointer = word_at(memory, place as usize)?;
+                word_at(memory, pointed_place(pointer) as usize)
+            }
+        }
+    }
+
+    /// A finished walk fills the cell the counter names; the counter steps 10o to 17o and round.
+    #[inline]
+    fn fill(&mut self, tag: u8, word: u16) {
+        if !self.has_cells {
+            return;
+        }
+        let cell = usize::from(self.counter - FIRST_CELL) & 7;
+        self.tags[cell] = tag;
+        self.words[cell] = word;
+        self.counter = FIRST_CELL + (self.counter + 1) % 8;
+    }
+}

@@ -1,0 +1,147 @@
+//! The worked numbers of 01, starred or not, and its bench listing to the byte.
+
+mod common;
+
+use common::{bare, bench, done, Rig};
+use kt11b_model::{map_page, pointed_place, route, simple_pages, Route, Unit};
+
+#[test]
+fn ktum_004005_has_four_simple_pages() {
+    assert_eq!(simple_pages(0o004005), 4);
+    assert_eq!(route(0o004005, 0, true, 3), Route::UserSimple(0o005406));
+    assert_eq!(route(0o004005, 0, true, 4), Route::UserShared(0o005410));
+    assert_eq!(pointed_place(0o003007), 0o007406);
+}
+
+#[test]
+fn a_user_gets_to_pages_3_and_4_by_those_places() {
+    let mut rig = Rig::user();
+    assert_eq!(rig.read(0o003002), done(0, 0o012002));
+    assert_eq!(rig.read(0o004004), done(0, 0o013004));
+    assert_eq!(rig.unit.tags()[..2], [0o203, 0o204]);
+}
+
+#[test]
+fn ktem_with_n_4_and_m_1() {
+    assert_eq!(route(0o004005, 0o004001, false, 3), Route::ExecSimple(0o001406));
+    assert_eq!(route(0o004005, 0o004001, false, 4), Route::ExecPerProcess(0o005010));
+}
+
+#[test]
+fn exec_000777_is_001777_and_001000_is_walked() {
+    let mut rig = Rig::exec();
+    rig.put(0o001776, 0o160777);
+    assert_eq!(rig.access([0, 3, 1], 0o000777, 0), done(0o160777, 0o001777));
+    assert_eq!(rig.unit.counter(), 0o10);
+    assert_eq!(rig.read(0o001000), done(0, 0o002000));
+    assert_eq!(rig.unit.counter(), 0o11);
+}
+
+#[test]
+fn unpaged_157777_stays_and_160000_goes_up() {
+    let mut rig = Rig::new();
+    assert_eq!(rig.access([0, 2, 1], 0o157777, 0), done(0, 0o157777));
+    assert_eq!(rig.access([0, 2, 1], 0o160000, 0), bare(9));
+    assert_eq!(rig.read(0o177600), done(0, 0o777600));
+}
+
+#[test]
+fn lengths_of_memory() {
+    let mut unit = Unit::fresh();
+    assert_eq!(unit.access(&mut [], 0, 2, 0, 0, 0), bare(9));
+    let mut four = [0u8; 4];
+    assert_eq!(unit.access(&mut four, 0, 2, 0, 2, 0), done(0, 2));
+    assert_eq!(unit.access(&mut four, 0, 2, 0, 4, 0), bare(9));
+    let mut whole = vec![0u8; 65_536];
+    assert_eq!(unit.access(&mut whole, 0, 2, 0, 0o157776, 0), done(0, 0o157776));
+    let mut longest = vec![0u8; 253_952];
+    assert_eq!(unit.access(&mut longest, 0, 2, 0, 0, 0), done(0, 0));
+    let mut too_long = vec![0u8; 253_954];
+    assert_eq!(unit.access(&mut too_long, 0, 2, 0, 0, 0), bare(1));
+    assert_eq!(unit.access(&mut [0; 3], 0, 2, 0, 0, 0), bare(1));
+}
+
+#[test]
+fn the_ninth_walk_refills_the_first_cell() {
+    let mut rig = Rig::exec();
+    for page in 1..=9u16 {
+        rig.put(0o001400 + 2 * usize::from(page), 0o160020 + page);
+    }
+    for page in 1..=7u16 {
+        rig.read(page << 9);
+    }
+    assert_eq!(rig.unit.counter(), 0o17);
+    rig.read(0o010000);
+    assert_eq!(rig.unit.counter(), 0o10);
+    assert_eq!(rig.unit.tags(), [1, 2, 3, 4, 5, 6, 7, 8]);
+    rig.read(0o011000);
+    assert_eq!(rig.unit.tags(), [9, 2, 3, 4, 5, 6, 7, 8]);
+    assert_eq!(rig.unit.words()[0], 0o160031);
+    assert_eq!(rig.unit.counter(), 0o11);
+}
+
+#[test]
+fn bench_listing() {
+    let input = b"W\t001402\t160002\nW\t002004\t000123\nA\t2\t2\t0\t177616\t177001\n\
+        A\t2\t2\t0\t177576\t000002\nA\t0\t2\t0\t001004\t000000\nA\t0\t2\t0\t001005\t000000\n";
+    let output = "CALL\tANS\tDATA\tPHYS\tKTCS\n1\t0\t000000\t777616\t000000\n\
+        2\t0\t000000\t777576\t000002\n3\t0\t000123\t002004\t000012\n4\t4\t000000\t-\t040012\n";
+    assert_eq!(bench(input), output);
+}
+
+#[test]
+fn errors_that_look_right() {
+    // Only word stores, or only KTUM: both registers by byte empty the cells.
+    for address in [0o177614, 0o177615, 0o177616, 0o177617] {
+        let mut rig = Rig::exec();
+        rig.read(0o001000);
+        rig.write_byte(address, 0);
+        assert_eq!((rig.unit.tags(), rig.unit.counter()), ([0; 8], 0o10));
+    }
+    // User page 0 is not exec page 0: it is walked and has a cell.
+    let mut rig = Rig::user();
+    assert_eq!(rig.read(0o000002), done(0, 0o010002));
+    assert!(rig.holds(0o200));
+    // DATIP needs the write key.
+    let mut rig = Rig::exec();
+    assert_eq!(rig.access([1, 3, 0], 0o003000, 0), bare(6));
+}
+
+#[test]
+fn fresh_is_all_zero_then_init() {
+    let unit = Unit::fresh();
+    assert_eq!((unit.ktcs(), unit.registers(), unit.wait_number()), (0, [0; 8], 0));
+    assert_eq!((unit.tags(), unit.words(), unit.counter()), ([0; 8], [0; 8], 0o10));
+    assert_eq!(unit.fetch_memory(), Default::default());
+}
+
+#[test]
+fn init_leaves_the_eight_registers() {
+    let mut rig = Rig::exec();
+    rig.read(0o001000);
+    rig.read(0o001001);
+    let registers = rig.unit.registers();
+    assert_eq!(rig.unit.init(), bare(0));
+    assert_eq!((rig.ktcs(), rig.unit.wait_number(), rig.unit.counter()), (0, 0, 0o10));
+    assert_eq!(rig.unit.registers(), registers);
+    assert_eq!(registers[4..], [0o001001, 0, 0o004005, 0o000001]);
+}
+
+#[test]
+fn the_unit_without_cells_walks_each_time() {
+    let mut rig = Rig::mapped();
+    rig.unit = Unit::fresh_without_cells();
+    rig.write(0o177616, 0o000001);
+    rig.write(0o177576, 2);
+    assert_eq!(rig.read(0o001000), done(0, 0o002000));
+    rig.put(0o001402, 0o160003);
+    assert_eq!(rig.read(0o001000), done(0, 0o003000));
+    assert_eq!((rig.unit.tags(), rig.unit.counter()), ([0; 8], 0o10));
+}
+
+#[test]
+fn a_map_page_is_a_part_of_the_memory() {
+    let memory = vec![0u8; 0o3000];
+    assert_eq!(map_page(&memory, 0o177001).len(), 512);
+    assert!(std::ptr::eq(map_page(&memory, 0o000001), &memory[0o1000..0o2000]));
+}
