@@ -1,4 +1,4 @@
--- The three faults that shipped, as rules that differ from 01's in what a call leaves in the cells, and a computed run that tells each apart.
+-- The three faults that shipped, and an error that looks right, as rules that differ from 01's in what a call leaves in the cells, and a computed run that tells each apart.
 use Prim.Native.Nat.{ℕ, _+_}
 use mathlib.Core.Path.{_≡_, refl, ap}
 use mathlib.Core.Bool.{true}
@@ -16,37 +16,44 @@ use Rattle.rules.proofs.Opened.{opened}
 use Rattle.rules.proofs.Worked.{A}
 use Rattle.rules.proofs.Premises.{toldBy, ans, stored, W, memory, pagingOn, readPage, movePage}
 
--- what a version leaves in the cells: by the map registers before the call, the effect, and the cells after the look-ups
+-- what a version leaves in the cells: by the call, the map registers before it, its effect, and the cells after its look-ups
 abbrev pub Version : Type 0
-Version = Maps → Effect → Cells → Cells
+Version = Call → Maps → Effect → Cells → Cells
 
 -- 01's rules
 abbrev pub byTheRules : Version
-byTheRules r e k = cellsAfter e k
+byTheRules c r e k = cellsAfter e k
 
 -- version one: cells kept on a store that changes KTUM
 abbrev pub one : Version
-one r e k = pick (eqb (mapsAfter e r .ktum) (r .ktum)) (cellsAfter e k) k
+one c r e k = pick (eqb (mapsAfter e r .ktum) (r .ktum)) (cellsAfter e k) k
 
 -- its twin: cells kept on a store that changes KTEM
 abbrev pub twin : Version
-twin r e k = pick (eqb (mapsAfter e r .ktem) (r .ktem)) (cellsAfter e k) k
+twin c r e k = pick (eqb (mapsAfter e r .ktem) (r .ktem)) (cellsAfter e k) k
+
+-- an error that looks right: a byte store leaves the cells
+abbrev pub wordsOnly : Version
+wordsOnly (Call.Access q) r e k = pick (eqb (q .op) 3) k (cellsAfter e k)
+wordsOnly Call.Interrupt r e k = cellsAfter e k
+wordsOnly (Call.Trap v) r e k = cellsAfter e k
+wordsOnly Call.Init r e k = cellsAfter e k
 
 -- version two: cells emptied on every access, and the counter with them
 abbrev pub two : Version
-two r e k = emptied k
+two c r e k = emptied k
 
 -- version three: the cell of the page at fault kept
 abbrev pub three : Version
-three r Effect.Keep k = cellsAfter Effect.Keep k
-three r (Effect.Forget tag) k = k
-three r (Effect.Reload r₁) k = cellsAfter (Effect.Reload r₁) k
-three r (Effect.StoreWord at v) k = cellsAfter (Effect.StoreWord at v) k
-three r (Effect.StoreByte at v) k = cellsAfter (Effect.StoreByte at v) k
-three r (Effect.StorePad i p v) k = cellsAfter (Effect.StorePad i p v) k
+three c r Effect.Keep k = cellsAfter Effect.Keep k
+three c r (Effect.Forget tag) k = k
+three c r (Effect.Reload r₁) k = cellsAfter (Effect.Reload r₁) k
+three c r (Effect.StoreWord at v) k = cellsAfter (Effect.StoreWord at v) k
+three c r (Effect.StoreByte at v) k = cellsAfter (Effect.StoreByte at v) k
+three c r (Effect.StorePad i p v) k = cellsAfter (Effect.StorePad i p v) k
 
 -- a call by a version, and what is seen along a run of calls
-abbrev pub settledBy : Version → Memory → Maps → Ran → After
+abbrev pub settledBy : (Maps → Effect → Cells → Cells) → Memory → Maps → Ran → After
 settledBy f m r d =
     record {
       reply =
@@ -58,7 +65,7 @@ settledBy f m r d =
     }
 
 abbrev pub callBy : Version → Memory → Unit → Call → After
-callBy f m u c = settledBy f m (u .maps) (run m (u .maps) (called m (u .core) (u .maps) c) (u .cells))
+callBy f m u c = settledBy (f c) m (u .maps) (run m (u .maps) (called m (u .core) (u .maps) c) (u .cells))
 
 abbrev pub seenBy : Version → Memory → Unit → List Call → List Seen
 seenBy f m u [] = []
@@ -101,6 +108,22 @@ pub record OneDiffers : Type 0 where
 pub one-differs : OneDiffers
 unfolding opened
 one-differs = record { met = refl; rules = refl; version = refl; twin-met = refl; twin-rules = refl; twin-version = refl }
+
+-- "or only on word stores" --------------------------------------------------------------------------------------------------------
+
+-- as the run of KTUM above, but its low byte takes 003
+abbrev pub byteChanged : List Call
+byteChanged =
+    A 2 1 0 0o177616 0o001001 ∷ A 2 1 0 0o177614 0o000002 ∷ A 2 1 0 0o177576 2 ∷ readPage 1 ∷ A 3 1 1 0o177614 0o000003 ∷ readPage 1 ∷ []
+
+pub record WordsOnlyDiffers : Type 0 where
+  pub met : meets (twoMaps 0) fresh noneInUse byteChanged ≡ true
+  pub rules : map toldBy (seenAlong (twoMaps 0) fresh byteChanged) ≡ ans 0 0 ∷ ans 0 0 ∷ ans 0 0 ∷ ans 0 0o111 ∷ ans 0 0 ∷ ans 0 0o222 ∷ []
+  pub version : map toldBy (seenBy wordsOnly (twoMaps 0) fresh byteChanged) ≡ ans 0 0 ∷ ans 0 0 ∷ ans 0 0 ∷ ans 0 0o111 ∷ ans 0 0 ∷ ans 0 0o111 ∷ []
+
+pub words-only-differs : WordsOnlyDiffers
+unfolding opened
+words-only-differs = record { met = refl; rules = refl; version = refl }
 
 -- Version two ------------------------------------------------------------------------------------------------------------------
 

@@ -43,13 +43,13 @@ pub fn register_effect(r: Maps, p: Part, v: u16, g: Register) -> Effect
         Register::Kept(_) => Effect::Keep,
         Register::Ktum => {
             let ktum = registers::merged(p, r.ktum, v);
-            let maps = Maps { ktum, ktem: r.ktem };
-            Effect::Reload(maps)
+            let user = Maps { ktum, ktem: r.ktem };
+            Effect::Reload(user)
         }
         Register::Ktem => {
             let ktem = registers::merged(p, r.ktem, v);
-            let maps = Maps { ktum: r.ktum, ktem };
-            Effect::Reload(maps)
+            let exec = Maps { ktum: r.ktum, ktem };
+            Effect::Reload(exec)
         }
         Register::Pad(i) => Effect::StorePad(i, p, v),
     }
