@@ -1,23 +1,23 @@
 -- Demand 1, stated: why each call ends as it does, and what it leaves as it was. The proofs stand in files of their own.
 use Prim.Native.Nat.{ℕ, _-_, _<_}
-use mathlib.Core.Bool.{Bool, true, false, not, _&&_}
+use mathlib.Core.Bool.{Bool, true, false, not, _&&_, _||_}
 use mathlib.Core.Path.{_≡_}
 use mathlib.Core.Logic.{_≢_}
 use lib.Dec.{eqb, ltb}
 use lib.ListN.{length, getD}
-use Rattle.rules.specs.Types.{Ktcs, Core, Maps, Cells, Unit, Access, Call, Register, Place, Entry, Looked, Due, Fault, Ruling, Answer, Effect, Job, Ran}
+use Rattle.rules.specs.Types.{Ktcs, Core, Maps, Cells, Unit, Access, Call, Found, Register, Place, Entry, Looked, Due, Fault, Ruling, Answer, Effect, Job, Ran}
 use Rattle.rules.specs.Memory.{Memory, storeWord, storeByte}
 use Rattle.rules.specs.Unit.{emptyCell, withFetch, initCore}
+use Rattle.rules.specs.Status.{flagsClear}
 use Rattle.rules.specs.Registers.{ktic, ktpc, ktps, ktad, ktdt, placeOf, partOf}
-use Rattle.rules.specs.Maps.{unpaged, unpagedAt, pageOf, physicalAt, residentBit, publicBit, writeBit, low9, tagOf, looked, forgotten}
+use Rattle.rules.specs.Maps.{unpaged, unpagedAt, pageOf, physicalAt, residentBit, publicBit, writeBit, low9, execZero, tagOf, cellOf, looked, forgotten}
 use Rattle.rules.specs.Fetched.{isFetch, noted, afterFetch}
 use Rattle.rules.specs.Steps.{wellShaped, dueOf, oddWord, watches, forbidden}
 use Rattle.rules.specs.Sequences.{violated, timedOut, statusStored, programCounterStored, firstReadDone, userStarted, interrupted, trapTwice, trapped, vectorListed, idle}
 use Rattle.rules.specs.Program.{run}
-use Rattle.rules.specs.Order.{storedAt, flagAfter, windowAddr}
+use Rattle.rules.specs.Order.{wordRead, storedAt, flagAfter, windowAddr}
 use Rattle.rules.specs.Calls.{After, called, callOf}
-use Rattle.rules.specs.Answers.{shown}
-use Rattle.rules.proofs.RunLaws.{wordRead}
+use Rattle.rules.specs.Answers.{faultShown, shown}
 
 -- An access under way ----------------------------------------------------------------------------------------------------
 
@@ -326,27 +326,34 @@ pub record StatesOnly (s t : Ktcs) : Type 0 where
   pub av : t .av ≡ s .av
   pub iv : t .iv ≡ s .iv
 
--- Step 4 makes d of the core c. It moves the counts, KTIC, SS and DS; an unpaged access leaves KTIC.
+-- Step 4 makes d of the core c. It moves the counts, KTIC, SS and DS; an unpaged access leaves KTIC; where an error flag stands, the counts
+-- alone move; and a fetch moves no count.
 pub record Step4Keeps (q : Access) (c d : Core) : Type 0 where
   pub ktcs : StatesOnly (c .ktcs) (d .ktcs)
   pub registers : (i : ℕ) → i ≢ ktic → getD (d .kept) i 0 ≡ getD (c .kept) i 0
   pub unpaged-registers : unpaged (c .ktcs .fcn) (q .state) ≡ true → d .kept ≡ c .kept
+  pub flagged-ktcs : flagsClear (c .ktcs) ≡ false → d .ktcs ≡ c .ktcs
+  pub flagged-registers : flagsClear (c .ktcs) ≡ false → d .kept ≡ c .kept
   pub wait : d .wait ≡ c .wait
   pub newer : d .fetch .newer ≡ c .fetch .newer
   pub older : d .fetch .older ≡ c .fetch .older
   pub public : d .fetch .public ≡ c .fetch .public
+  pub fetch-uncounted : isFetch q ≡ true → d .fetch ≡ c .fetch
 
 abbrev pub Step4Leaves : Type 0
 Step4Leaves = (c : Core) (q : Access) → Step4Keeps q c (noted c q)
 
--- Step 6 fills at most the cell that the counter names, and none where the walk timed out.
-pub record Step6Keeps (k : Cells) (l : Looked) : Type 0 where
+-- Step 6 for a page makes l of the cells k. It fills at most the cell that the counter names; a hit, a walk that timed out and exec page 0 leave
+-- the cells and the counter.
+pub record Step6Keeps (user : Bool) (p : ℕ) (k : Cells) (l : Looked) : Type 0 where
   pub count : length (l .cells .list) ≡ length (k .list)
   pub others : (i : ℕ) → i ≢ k .counter - 0o10 → getD (l .cells .list) i emptyCell ≡ getD (k .list) i emptyCell
+  pub hit : {i : ℕ} → cellOf k (tagOf user p) ≡ Found.At i → l .cells ≡ k
   pub timed-out : l .entry ≡ Entry.OffMap → l .cells ≡ k
+  pub exec-zero : execZero user p ≡ true → l .cells ≡ k
 
 abbrev pub Step6Leaves : Type 0
-Step6Leaves = (m : Memory) (r : Maps) (user : Bool) (p : ℕ) (k : Cells) → Step6Keeps k (looked m r user p k)
+Step6Leaves = (m : Memory) (r : Maps) (user : Bool) (p : ℕ) (k : Cells) → Step6Keeps user p k (looked m r user p k)
 
 -- What a refusal leaves --------------------------------------------------------------------------------------------------
 
@@ -380,16 +387,17 @@ UnpagedRefusal =
     → UnpagedTimeOut u q (callOf m u (Call.Access q))
 
 -- Answers 4 to 8 and a paged 9 make d of the core c. SS, DS and KTIC are as step 4 left them, KTSP, KTPC and KTPS as they were, KTAD too in a
--- window's inner access, and FCN unless it was 3; the flags that stood still stand.
-pub record ViolationKeeps (q : Access) (window : Bool) (c d : Core) : Type 0 where
+-- window's inner access, and FCN unless it was 3. Of the five flags the fault's own is set, and the others are as they were: "AV, RV, WV, PV, IV"
+-- are answers 4 to 8, and 9 has none.
+pub record ViolationKeeps (q : Access) (window : Bool) (f : Fault) (c d : Core) : Type 0 where
   pub fcn : eqb (c .ktcs .fcn) 3 ≡ false → d .ktcs .fcn ≡ c .ktcs .fcn
   pub ss : d .ktcs .ss ≡ noted c q .ktcs .ss
   pub ds : d .ktcs .ds ≡ noted c q .ktcs .ds
-  pub rv : c .ktcs .rv ≡ true → d .ktcs .rv ≡ true
-  pub pv : c .ktcs .pv ≡ true → d .ktcs .pv ≡ true
-  pub wv : c .ktcs .wv ≡ true → d .ktcs .wv ≡ true
-  pub av : c .ktcs .av ≡ true → d .ktcs .av ≡ true
-  pub iv : c .ktcs .iv ≡ true → d .ktcs .iv ≡ true
+  pub av : d .ktcs .av ≡ (c .ktcs .av || eqb (faultShown f .number) 4)
+  pub rv : d .ktcs .rv ≡ (c .ktcs .rv || eqb (faultShown f .number) 5)
+  pub wv : d .ktcs .wv ≡ (c .ktcs .wv || eqb (faultShown f .number) 6)
+  pub pv : d .ktcs .pv ≡ (c .ktcs .pv || eqb (faultShown f .number) 7)
+  pub iv : d .ktcs .iv ≡ (c .ktcs .iv || eqb (faultShown f .number) 8)
   pub instruction : getD (d .kept) ktic 0 ≡ getD (noted c q .kept) ktic 0
   pub registers : (i : ℕ) → i ≢ ktic → i ≢ ktad → i ≢ ktdt → getD (d .kept) i 0 ≡ getD (c .kept) i 0
   pub inner-address : window ≡ true → getD (d .kept) ktad 0 ≡ getD (c .kept) ktad 0
@@ -411,7 +419,7 @@ pub record Violation (m : Memory) (u : Unit) (q : Access) (a : After) : Type 0 w
   pub core : a .reply .unit .core ≡ violated (noted (u .core) q) q window fault
   pub maps : a .reply .unit .maps ≡ u .maps
   pub cells : a .reply .unit .cells ≡ forgotten left tag
-  pub keeps : ViolationKeeps q window (u .core) (a .reply .unit .core)
+  pub keeps : ViolationKeeps q window fault (u .core) (a .reply .unit .core)
   pub others : ForgottenKeeps tag left (a .reply .unit .cells)
 
 -- "answers 4 to 8 and a paged 9 change only what steps 4 and 6 do and the sequence"

@@ -1,6 +1,6 @@
 -- Field by field, what step 4, step 6, a time-out, a violation and the emptying of a cell leave alone.
 use Prim.Native.Nat.{ℕ, _<_}
-use mathlib.Core.Bool.{Bool, true, false, _&&_, true≢false, and-eq-true-iff}
+use mathlib.Core.Bool.{Bool, true, false, _&&_, _||_, true≢false, and-eq-true-iff, or-true, or-false}
 use mathlib.Core.Path.{_≡_, refl, sym, ap, _∙_}
 use mathlib.Core.Logic.{_≢_}
 use mathlib.Core.List.{List, map}
@@ -18,6 +18,7 @@ use Rattle.rules.specs.Registers.{ktic, ktad, ktdt}
 use Rattle.rules.specs.Maps.{unpaged, execZero, tagOf, cellOf, walkOf, entryOf, filled, filledBy, missed, soughtIn, looked, cellForgotten, forgotten}
 use Rattle.rules.specs.Fetched.{isFetch, counted, normal, statesMarked, instructionNoted, marked, noted}
 use Rattle.rules.specs.Sequences.{leftFor, flagged, startEnded, addressKept, linesKept, faultData, violated, timedOut}
+use Rattle.rules.specs.Answers.{shownAs, faultShown}
 use Rattle.rules.proofs.Choices.{picked}
 use Rattle.rules.proofs.Demand1.{StatesOnly, Step4Keeps, Step4Leaves, Step6Keeps, Step6Leaves, TimeOutKeeps, ViolationKeeps, ForgottenKeeps}
 
@@ -49,87 +50,111 @@ unpaged-not-normal s q e =
     rw (ne-eqb (s .fcn) 2 (omega arith), ne-eqb (s .fcn) 3 (omega arith))
 
 module _ (q : Access) (c : Core) where
-  -- another fetch memory, which tells itself from the old one by the counts
+  -- another fetch memory, which tells itself from the old one by the counts, and not at all after a fetch
   counts-only :
       (f : Fetch) → f .newer ≡ c .fetch .newer → f .older ≡ c .fetch .older → f .public ≡ c .fetch .public
-      → Step4Keeps q c (withFetch c f)
+      → (isFetch q ≡ true → f ≡ c .fetch) → Step4Keeps q c (withFetch c f)
   unfolding withFetch
-  counts-only f n o p =
+  counts-only f n o p u =
       record {
         ktcs = states-same (c .ktcs);
         registers = λ i n. refl;
         unpaged-registers = λ e. refl;
+        flagged-ktcs = λ e. refl;
+        flagged-registers = λ e. refl;
         wait = refl;
         newer = n;
         older = o;
         public = p;
+        fetch-uncounted = u;
       }
 
   counted-keeps : Step4Keeps q c (withFetch c (counted q (c .fetch)))
   unfolding counted
   counted-keeps =
-      picked (λ f. Step4Keeps q c (withFetch c f)) (isFetch q) _ _ (λ e. counts-only _ refl refl refl) (λ e. counts-only _ refl refl refl)
+      picked (λ f. Step4Keeps q c (withFetch c f)) (isFetch q) _ _ (λ e. counts-only _ refl refl refl (λ t. refl))
+      (λ e. counts-only _ refl refl refl (λ t. absurd (true≢false (cc))))
 
-  -- KTIC is taken in normal paging only
-  instruction-only : (d : Core) → normal (c .ktcs) q ≡ true → Step4Keeps q c d → Step4Keeps q c (withKept d (set (d .kept) ktic (q .addr)))
+  -- KTIC is taken in normal paging only, with the flags clear
+  instruction-only :
+      (d : Core) → flagsClear (c .ktcs) ≡ true → normal (c .ktcs) q ≡ true → Step4Keeps q c d → Step4Keeps q c (withKept d (set (d .kept) ktic (q .addr)))
   unfolding withKept
-  instruction-only d e h =
+  instruction-only d clear e h =
       record {
         ktcs = h .ktcs;
         registers = λ i n. rw getD-set-other (h .registers i n);
         unpaged-registers = λ n. let no : normal (c .ktcs) q ≡ false = unpaged-not-normal (c .ktcs) q n in absurd (true≢false (cc));
+        flagged-ktcs = h .flagged-ktcs;
+        flagged-registers = λ n. absurd (true≢false (cc));
         wait = h .wait;
         newer = h .newer;
         older = h .older;
         public = h .public;
+        fetch-uncounted = h .fetch-uncounted;
       }
 
-  status-keeps : (d : Core) (s : Ktcs) → StatesOnly (c .ktcs) s → Step4Keeps q c d → Step4Keeps q c (withKtcs d s)
+  status-keeps :
+      (d : Core) (s : Ktcs) → flagsClear (c .ktcs) ≡ true → StatesOnly (c .ktcs) s → Step4Keeps q c d → Step4Keeps q c (withKtcs d s)
   unfolding withKtcs
-  status-keeps d s t h =
+  status-keeps d s clear t h =
       record {
         ktcs = t;
         registers = h .registers;
         unpaged-registers = h .unpaged-registers;
+        flagged-ktcs = λ n. absurd (true≢false (cc));
+        flagged-registers = h .flagged-registers;
         wait = h .wait;
         newer = h .newer;
         older = h .older;
         public = h .public;
+        fetch-uncounted = h .fetch-uncounted;
       }
 
 pub step4-leaves : Step4Leaves
 unfolding noted marked instructionNoted withFetch
 step4-leaves c q =
     picked (Step4Keeps q c) (flagsClear (c .ktcs)) _ _
-    (λ e. status-keeps q c _ _ (statesMarked-keeps (c .ktcs) (c .fetch) q)
+    (λ e. status-keeps q c _ _ e (statesMarked-keeps (c .ktcs) (c .fetch) q)
     (picked (Step4Keeps q c) (isFetch q && normal (c .ktcs) q) _ _
-    (λ n. instruction-only q c _ (and-eq-true-iff (isFetch q) (normal (c .ktcs) q) .0 n .1) (counted-keeps q c)) (λ n. counted-keeps q c)))
+    (λ n. instruction-only q c _ e (and-eq-true-iff (isFetch q) (normal (c .ktcs) q) .0 n .1) (counted-keeps q c)) (λ n. counted-keeps q c)))
     (λ e. counted-keeps q c)
 
 -- Step 6 -----------------------------------------------------------------------------------------------------------------
 
-cells-same : (k : Cells) (e : Entry) → Step6Keeps k (record { entry = e; cells = k })
-cells-same k e = record { count = refl; others = λ i n. refl; timed-out = λ h. refl }
+module _ (user : Bool) (p : ℕ) (k : Cells) where
+  cells-same : (e : Entry) → Step6Keeps user p k (record { entry = e; cells = k })
+  cells-same e = record { count = refl; others = λ i n. refl; hit = λ h. refl; timed-out = λ h. refl; exec-zero = λ h. refl }
 
-filled-keeps : (k : Cells) (tag w : ℕ) → Step6Keeps k (record { entry = Entry.Mapped w; cells = filled k tag w })
-unfolding filled
-filled-keeps k tag w = record { count = rw length-set; others = λ i n. rw getD-set-other; timed-out = λ h. cc }
+  module _ (walks : execZero user p ≡ false) (missing : cellOf k (tagOf user p) ≡ Found.Missing) where
+    filled-keeps : (tag w : ℕ) → Step6Keeps user p k (record { entry = Entry.Mapped w; cells = filled k tag w })
+    unfolding filled
+    filled-keeps tag w =
+        record {
+          count = rw length-set;
+          others = λ i n. rw getD-set-other;
+          hit = λ h. cc;
+          timed-out = λ h. cc;
+          exec-zero = λ h. absurd (true≢false (cc));
+        }
 
-missed-keeps : (k : Cells) (tag : ℕ) (w : Walk) → Step6Keeps k (missed k tag w)
-unfolding missed entryOf filledBy
-missed-keeps k tag (Walk.Direct w at) = filled-keeps k tag w
-missed-keeps k tag (Walk.Pointed w from at) = filled-keeps k tag w
-missed-keeps k tag Walk.Off = cells-same k Entry.OffMap
+    missed-keeps : (tag : ℕ) (w : Walk) → Step6Keeps user p k (missed k tag w)
+    unfolding missed entryOf filledBy
+    missed-keeps tag (Walk.Direct w at) = filled-keeps tag w
+    missed-keeps tag (Walk.Pointed w from at) = filled-keeps tag w
+    missed-keeps tag Walk.Off = cells-same Entry.OffMap
 
-sought-keeps : (m : Memory) (r : Maps) (user : Bool) (p : ℕ) (k : Cells) (x : Found) → Step6Keeps k (soughtIn m r user p k x)
-unfolding soughtIn
-sought-keeps m r user p k (Found.At i) = cells-same k _
-sought-keeps m r user p k Found.Missing = missed-keeps k (tagOf user p) (walkOf m r user p)
+  sought-keeps :
+      (m : Memory) (r : Maps) (x : Found) → execZero user p ≡ false → cellOf k (tagOf user p) ≡ x
+      → Step6Keeps user p k (soughtIn m r user p k x)
+  unfolding soughtIn
+  sought-keeps m r (Found.At i) z e = cells-same _
+  sought-keeps m r Found.Missing z e = missed-keeps z e (tagOf user p) (walkOf m r user p)
 
 pub step6-leaves : Step6Leaves
 unfolding looked
 step6-leaves m r user p k =
-    picked (Step6Keeps k) (execZero user p) _ _ (λ e. cells-same k _) (λ e. sought-keeps m r user p k (cellOf k (tagOf user p)))
+    picked (Step6Keeps user p k) (execZero user p) _ _ (λ e. cells-same user p k _)
+    (λ e. sought-keeps user p k m r (cellOf k (tagOf user p)) e refl)
 
 -- A time-out and a violation ---------------------------------------------------------------------------------------------
 
@@ -159,52 +184,53 @@ timed-out-keeps c q e =
       public = h .public;
     }
 
--- KTCS but for the flags, of which those that stood still stand
-record FlagsOnly (s t : Ktcs) : Type 0 where
+-- KTCS but for the flags, of which the fault's own is set
+record FlagsOnly (f : Fault) (s t : Ktcs) : Type 0 where
   fcn : t .fcn ≡ s .fcn
   ss : t .ss ≡ s .ss
   ds : t .ds ≡ s .ds
-  rv : s .rv ≡ true → t .rv ≡ true
-  pv : s .pv ≡ true → t .pv ≡ true
-  wv : s .wv ≡ true → t .wv ≡ true
-  av : s .av ≡ true → t .av ≡ true
-  iv : s .iv ≡ true → t .iv ≡ true
+  av : t .av ≡ (s .av || eqb (faultShown f .number) 4)
+  rv : t .rv ≡ (s .rv || eqb (faultShown f .number) 5)
+  wv : t .wv ≡ (s .wv || eqb (faultShown f .number) 6)
+  pv : t .pv ≡ (s .pv || eqb (faultShown f .number) 7)
+  iv : t .iv ≡ (s .iv || eqb (faultShown f .number) 8)
 
-flags-only :
-    (s : Ktcs) {rv pv wv av iv : Bool} → (s .rv ≡ true → rv ≡ true) → (s .pv ≡ true → pv ≡ true) → (s .wv ≡ true → wv ≡ true)
-    → (s .av ≡ true → av ≡ true) → (s .iv ≡ true → iv ≡ true) → FlagsOnly s (withFlags s rv pv wv av iv)
+-- each flag stands if it stood, or if it is the fault's own
+flagged-sets :
+    (s : Ktcs) (f : Fault)
+    → flagged s f
+    ≡ withFlags s (s .rv || eqb (faultShown f .number) 5) (s .pv || eqb (faultShown f .number) 7) (s .wv || eqb (faultShown f .number) 6)
+    (s .av || eqb (faultShown f .number) 4) (s .iv || eqb (faultShown f .number) 8)
+unfolding flagged withFlags faultShown shownAs
+flagged-sets s Fault.OddAddress = simp (or-true, or-false)
+flagged-sets s Fault.NoMapWord = simp or-false
+flagged-sets s Fault.NotResident = simp (or-true, or-false)
+flagged-sets s Fault.NotWritable = simp (or-true, or-false)
+flagged-sets s Fault.NotPublic = simp (or-true, or-false)
+flagged-sets s Fault.NoTarget = simp or-false
+flagged-sets s (Fault.Forbidden w at) = simp (or-true, or-false)
+
+flagged-keeps : (s : Ktcs) (f : Fault) → FlagsOnly f s (flagged s f)
 unfolding withFlags
-flags-only s rv pv wv av iv = record { fcn = refl; ss = refl; ds = refl; rv = rv; pv = pv; wv = wv; av = av; iv = iv }
+flagged-keeps s f =
+    rw flagged-sets (record { fcn = refl; ss = refl; ds = refl; av = refl; rv = refl; wv = refl; pv = refl; iv = refl })
 
-flags-same : (s : Ktcs) → FlagsOnly s s
-flags-same s = record { fcn = refl; ss = refl; ds = refl; rv = λ h. h; pv = λ h. h; wv = λ h. h; av = λ h. h; iv = λ h. h }
-
-flagged-keeps : (s : Ktcs) (f : Fault) → FlagsOnly s (flagged s f)
-unfolding flagged
-flagged-keeps s Fault.OddAddress = flags-only s (λ h. h) (λ h. h) (λ h. h) (λ h. refl) (λ h. h)
-flagged-keeps s Fault.NoMapWord = flags-same s
-flagged-keeps s Fault.NotResident = flags-only s (λ h. refl) (λ h. h) (λ h. h) (λ h. h) (λ h. h)
-flagged-keeps s Fault.NotWritable = flags-only s (λ h. h) (λ h. h) (λ h. refl) (λ h. h) (λ h. h)
-flagged-keeps s Fault.NotPublic = flags-only s (λ h. h) (λ h. refl) (λ h. h) (λ h. h) (λ h. h)
-flagged-keeps s Fault.NoTarget = flags-same s
-flagged-keeps s (Fault.Forbidden w at) = flags-only s (λ h. h) (λ h. h) (λ h. h) (λ h. h) (λ h. refl)
-
-pub violated-keeps : (c : Core) (q : Access) (window : Bool) (f : Fault) → ViolationKeeps q window c (violated (noted c q) q window f)
+pub violated-keeps : (c : Core) (q : Access) (window : Bool) (f : Fault) → ViolationKeeps q window f c (violated (noted c q) q window f)
 unfolding violated leftFor startEnded withModes pick
 violated-keeps c q window f =
     let h : Step4Keeps q c (noted c q) = step4-leaves c q in
-    let s : FlagsOnly (startEnded (noted c q .ktcs)) (flagged (startEnded (noted c q .ktcs)) f) = flagged-keeps (startEnded (noted c q .ktcs)) f in
+    let s : FlagsOnly f (startEnded (noted c q .ktcs)) (flagged (startEnded (noted c q .ktcs)) f) = flagged-keeps (startEnded (noted c q .ktcs)) f in
     let lines : (i : ℕ) → i ≢ ktad → i ≢ ktdt → getD (violated (noted c q) q window f .kept) i 0 ≡ getD (noted c q .kept) i 0 =
     lines-keep (noted c q .kept) window (q .addr) (faultData q f) in
     record {
       fcn = λ e. s .fcn ∙ rw (h .ktcs .fcn, e);
       ss = s .ss;
       ds = s .ds;
-      rv = λ e. s .rv (h .ktcs .rv ∙ e);
-      pv = λ e. s .pv (h .ktcs .pv ∙ e);
-      wv = λ e. s .wv (h .ktcs .wv ∙ e);
-      av = λ e. s .av (h .ktcs .av ∙ e);
-      iv = λ e. s .iv (h .ktcs .iv ∙ e);
+      rv = s .rv ∙ rw (h .ktcs .rv);
+      pv = s .pv ∙ rw (h .ktcs .pv);
+      wv = s .wv ∙ rw (h .ktcs .wv);
+      av = s .av ∙ rw (h .ktcs .av);
+      iv = s .iv ∙ rw (h .ktcs .iv);
       instruction = lines ktic (omega arith) (omega arith);
       registers = λ i n n₁ n₂. lines i n₁ n₂ ∙ h .registers i n;
       inner-address =

@@ -4,11 +4,11 @@ use mathlib.Core.Bool.{Bool, true, false}
 use mathlib.Core.Path.{_≡_, refl}
 use Rattle.rules.specs.Types.{Maps, Cells, Register, Place, Entry, Outcome, Job}
 use Rattle.rules.specs.Choice.{pick}
-use Rattle.rules.specs.Memory.{Memory, wordAt, evenOf}
-use Rattle.rules.specs.Registers.{registerWord, peeked}
+use Rattle.rules.specs.Memory.{Memory}
+use Rattle.rules.specs.Registers.{peeked}
 use Rattle.rules.specs.Maps.{looked}
 use Rattle.rules.specs.Program.{Prog, done, ask, peek, run}
-use Rattle.rules.specs.Order.{readIn, readAt}
+use Rattle.rules.specs.Order.{readIn, readAt, wordIn, wordRead}
 
 pub run-done : (m : Memory) (r : Maps) (o : Outcome) (k : Cells) → run m r (done o) k ≡ record { outcome = o; cells = k }
 unfolding run
@@ -30,22 +30,6 @@ pub run-pick :
 unfolding pick
 run-pick m r true p q k = refl
 run-pick m r false p q k = refl
-
--- the word that a read of a register gives: from the cells for KTMR and the scratchpad words, from the unit's other state for the rest
-unfoldable pub wordIn : Job → Cells → Register → ℕ
-wordIn j k Register.Ktmr = peeked k Register.Ktmr
-wordIn j k Register.Ktcs = registerWord (j .core) (j .maps) Register.Ktcs
-wordIn j k (Register.Kept i) = registerWord (j .core) (j .maps) (Register.Kept i)
-wordIn j k Register.Ktum = registerWord (j .core) (j .maps) Register.Ktum
-wordIn j k Register.Ktem = registerWord (j .core) (j .maps) Register.Ktem
-wordIn j k (Register.Pad i) = peeked k (Register.Pad i)
-
--- the word that a read at a place gives
-unfoldable pub wordRead : Memory → Job → Cells → ℕ → Place → ℕ
-wordRead m j k at Place.Memory = wordAt m (evenOf at)
-wordRead m j k at Place.Window = 0
-wordRead m j k at (Place.In g) = wordIn j k g
-wordRead m j k at Place.Nowhere = 0
 
 pub run-readIn :
     (m : Memory) (r : Maps) (j : Job) (g : Register) (f : ℕ → Prog) (k : Cells)

@@ -13,10 +13,10 @@ use Rattle.rules.specs.Fetched.{isFetch}
 use Rattle.rules.specs.Steps.{wellShaped, dueOf, oddWord, keysOf, judged, watches, forbidden}
 use Rattle.rules.specs.Sequences.{vectorListed, idle}
 use Rattle.rules.specs.Program.{Prog, run}
-use Rattle.rules.specs.Order.{outcome, refused, faulted, outerFault, transferred, fetched, wordJudged, unpagedReached, unpagedTimeOut, unpagedTarget, unpagedFrom, windowAddr, innerFault, innerTarget, innerRuled, windowed, pagedReached, outerTarget, outerRuled, pagedFrom, sequenced, afterWait, accessed}
+use Rattle.rules.specs.Order.{outcome, refused, faulted, outerFault, wordRead, transferred, fetched, wordJudged, unpagedReached, unpagedTimeOut, unpagedTarget, unpagedFrom, windowAddr, innerFault, innerTarget, innerRuled, windowed, pagedReached, outerTarget, outerRuled, pagedFrom, sequenced, afterWait, accessed}
 use Rattle.rules.specs.Calls.{interruptOf, trapOf, initOf, called}
 use Rattle.rules.proofs.Choices.{picked}
-use Rattle.rules.proofs.RunLaws.{wordRead, run-readAt}
+use Rattle.rules.proofs.RunLaws.{run-readAt}
 use Rattle.rules.proofs.Demand1.{job, outer, inner, outerAt, innerAt, locked, hidden, Keys, off-map, not-resident, not-writable, not-public, granted, exec-zero, memory, register, Transfer, read, store}
 use Rattle.rules.proofs.Demand1.{Begun, Unpaged, UnpagedThere, Paged, Asked, Granted, PagedThere, Windowed, InnerAsked, InnerGranted}
 use Rattle.rules.proofs.Demand1.{odd, keys-refuse, nowhere, window-by-fetch, forbidden-word, inner-odd, inner-keys-refuse, inner-nowhere, window-on-window}

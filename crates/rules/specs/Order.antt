@@ -3,12 +3,12 @@ use Prim.Native.Nat.{ℕ}
 use mathlib.Core.Bool.{Bool, true, false}
 use lib.Dec.{ltb}
 use lib.ListN.{length, getD, set}
-use Rattle.rules.specs.Types.{Fetch, Core, Maps, Access, Register, Place, Part, Entry, Due, Fault, Ruling, Answer, Effect, Outcome, Job}
+use Rattle.rules.specs.Types.{Fetch, Core, Maps, Cells, Access, Register, Place, Part, Entry, Due, Fault, Ruling, Answer, Effect, Outcome, Job}
 use Rattle.rules.specs.Choice.{pick}
 use Rattle.rules.specs.Memory.{Memory, wordAt, evenOf}
 use Rattle.rules.specs.Unit.{withKtcs, withKept, withFetch}
 use Rattle.rules.specs.Status.{ktcsStored}
-use Rattle.rules.specs.Registers.{ktad, ktpc, ktps, placeOf, partOf, merged, registerWord}
+use Rattle.rules.specs.Registers.{ktad, ktpc, ktps, placeOf, partOf, merged, registerWord, peeked}
 use Rattle.rules.specs.Maps.{unpaged, unpagedAt, pageOf, physicalAt, tagOf}
 use Rattle.rules.specs.Fetched.{isFetch, noted, afterFetch}
 use Rattle.rules.specs.Steps.{wellShaped, dueOf, oddWord, judged, watches, publicPage, forbidden}
@@ -49,6 +49,22 @@ readAt m j at Place.Memory f = f (wordAt m (evenOf at))
 readAt m j at Place.Window f = f 0
 readAt m j at (Place.In g) f = readIn j g f
 readAt m j at Place.Nowhere f = f 0
+
+-- What a read comes to, with the cells at hand: KTMR and the scratchpad words from the cells, the others from the rest of the unit.
+unfoldable pub wordIn : Job → Cells → Register → ℕ
+wordIn j k Register.Ktmr = peeked k Register.Ktmr
+wordIn j k Register.Ktcs = registerWord (j .core) (j .maps) Register.Ktcs
+wordIn j k (Register.Kept i) = registerWord (j .core) (j .maps) (Register.Kept i)
+wordIn j k Register.Ktum = registerWord (j .core) (j .maps) Register.Ktum
+wordIn j k Register.Ktem = registerWord (j .core) (j .maps) Register.Ktem
+wordIn j k (Register.Pad i) = peeked k (Register.Pad i)
+
+-- the word that a read at a place gives: what `readAt` goes on with, once the cells have told what they show
+unfoldable pub wordRead : Memory → Job → Cells → ℕ → Place → ℕ
+wordRead m j k at Place.Memory = wordAt m (evenOf at)
+wordRead m j k at Place.Window = 0
+wordRead m j k at (Place.In g) = wordIn j k g
+wordRead m j k at Place.Nowhere = 0
 
 -- A store into a register, of the core: KTCS by its own rule, the six that remember by word and byte.
 unfoldable pub coreStored : Core → Part → ℕ → Register → Core

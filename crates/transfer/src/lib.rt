@@ -10,8 +10,7 @@ use rules::Ran;
 use rules::Register;
 ghost use mathlib.Core.Path.{_≡_};
 ghost use Rattle.rules.specs.Program.{run};
-ghost use Rattle.rules.specs.Order.{storedAt, transferred};
-ghost use Rattle.rules.proofs.RunLaws.{wordIn, wordRead};
+ghost use Rattle.rules.specs.Order.{wordIn, wordRead, storedAt, transferred};
 
 // A call that has ended, with the cells as its look-ups left them.
 pub fn ended(o: Outcome, k: Cells) -> Ran

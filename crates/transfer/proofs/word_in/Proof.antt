@@ -1,5 +1,5 @@
 -- `transfer::word_in` meets its contract.
-use Rattle.rules.proofs.RunLaws.{wordIn}
+use Rattle.rules.specs.Order.{wordIn}
 use mathlib.Core.Path.{sym}
 use borrow.Author.Needs.{needs}
 use Rattle.transfer.proofs.word_in.Statement.{statement}

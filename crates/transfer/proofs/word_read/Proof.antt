@@ -1,5 +1,5 @@
 -- `transfer::word_read` meets its contract.
-use Rattle.rules.proofs.RunLaws.{wordRead}
+use Rattle.rules.specs.Order.{wordRead}
 use mathlib.Core.Path.{sym}
 use borrow.Author.Needs.{needs}
 use Rattle.transfer.proofs.word_read.Statement.{statement}
