@@ -9,7 +9,7 @@ use Rattle.rules.specs.Types.{Ktcs, Core, Maps, Cells, Unit, Access, Cal
 use Rattle.rules.specs.Memory.{Memory, storeWord, storeByte}
 use Rattle.rules.specs.Unit.{emptyCell, withFetch, initCore}
 use Rattle.rules.specs.Status.{flagsClear}
-use Rattle.rules.specs.Registers.{ktic, ktpc, ktps, ktad, ktdt, placeOf, partOf}
+use Rattle.rules.specs.Registers.{ktic, ktpc, ktps, ktad, ktdt, placeOf, partOf, merged}
 use Rattle.rules.specs.Maps.{unpaged, unpagedAt, pageOf, physicalAt, residentBit, publicBit, writeBit, low9, execZero, tagOf, cellOf, looked, forgotten}
 use Rattle.rules.specs.Fetched.{isFetch, noted, afterFetch}
 use Rattle.rules.specs.Steps.{wellShaped, dueOf, oddWord, watches, forbidden}
@@ -312,6 +312,53 @@ MemoryUntouched = (m : Memory) (u : Unit) (c : Call) → numberOf (callOf m u c)
 -- "and its length never changes"
 abbrev pub LengthKept : Type 0
 LengthKept = (m : Memory) (u : Unit) (c : Call) → length (callOf m u c .memory) ≡ length m
+
+-- What a call does, by its answer -----------------------------------------------------------------------------------------
+
+-- What a store that is done asks for, by the place at which its physical address lies. Into memory goes a DATO's word or a DATOB's byte; KTUM and
+-- KTEM take their part of the data, which forgets all pages; a scratchpad word takes it too; KTMR takes nothing, and the other registers stand in
+-- the core.
+pub data Stores (u : Unit) (q : Access) (at : ℕ) : Place → Effect → Type 0 where
+  word-store : q .op ≡ 2 → Stores u q at Place.Memory (Effect.StoreWord at (q .datum))
+  byte-store : q .op ≡ 3 → Stores u q at Place.Memory (Effect.StoreByte at (q .datum))
+  ktmr-store : Stores u q at (Place.In Register.Ktmr) Effect.Keep
+  ktcs-store : Stores u q at (Place.In Register.Ktcs) Effect.Keep
+  kept-store : {i : ℕ} → Stores u q at (Place.In (Register.Kept i)) Effect.Keep
+  ktum-store :
+      Stores u q at (Place.In Register.Ktum)
+      (Effect.Reload (record { ktum = merged (partOf (q .op) at) (u .maps .ktum) (q .datum); ktem = u .maps .ktem }))
+  ktem-store :
+      Stores u q at (Place.In Register.Ktem)
+      (Effect.Reload (record { ktum = u .maps .ktum; ktem = merged (partOf (q .op) at) (u .maps .ktem) (q .datum) }))
+  pad-store : {i : ℕ} → Stores u q at (Place.In (Register.Pad i)) (Effect.StorePad i (partOf (q .op) at) (q .datum))
+
+-- What a call does beside its answer and the core. Its effect is the only thing by which memory, map registers and cells change (`settled` of
+-- specs/Calls.antt; the cells change by step 6 too), and the only thing by which a page is forgotten (`historyAfter` of specs/Runs.antt).
+pub data Does (m : Memory) (u : Unit) : Call → Answer → Effect → Type 0 where
+  -- answers 1, 2 and 3: nothing
+  after-refusal : {c : Call} {a : Answer} → shown a .number ≢ 0 → shown a .number < 4 → Does m u c a Effect.Keep
+  -- an unpaged 9: nothing
+  after-unpaged-time-out :
+      {q : Access} → unpaged (u .core .ktcs .fcn) (q .state) ≡ true → Does m u (Call.Access q) (Answer.Fault Fault.NoTarget) Effect.Keep
+  -- answers 4 to 8 and a paged 9: the page at fault, and no other, is forgotten
+  after-fault :
+      {q : Access} {f : Fault} {window : Bool} {tag : ℕ} {k : Cells} → AtFault m u q f window tag k
+      → Does m u (Call.Access q) (Answer.Fault f) (Effect.Forget tag)
+  -- INIT: all pages are forgotten, and the map registers stay
+  after-init : Does m u Call.Init (Answer.Taken 0) (Effect.Reload (u .maps))
+  -- answer 0 of an interrupt, a trap, a sequence access, a read or a fetch: nothing
+  after-interrupt : Does m u Call.Interrupt (Answer.Taken 0) Effect.Keep
+  after-trap : {v : ℕ} → Does m u (Call.Trap v) (Answer.Taken 0) Effect.Keep
+  after-sequence : {q : Access} {w : ℕ} → Does m u (Call.Access q) (Answer.Taken w) Effect.Keep
+  after-read : {q : Access} {w at : ℕ} → q .op < 2 → Does m u (Call.Access q) (Answer.Done w at) Effect.Keep
+  -- answer 0 of a store: what its place asks for
+  after-store :
+      {q : Access} {at : ℕ} {pl : Place} {e : Effect} → 1 < q .op → placeOf (length m) at ≡ pl → Stores u q at pl e
+      → Does m u (Call.Access q) (Answer.Done 0 at) e
+
+-- "Forget" for answers 4 to 8 and a paged 9 alone, "Reload" for INIT and a KTUM or KTEM store alone, stores for answer 0 alone
+abbrev pub EffectsByAnswer : Type 0
+EffectsByAnswer = (m : Memory) (u : Unit) (c : Call) → Does m u c (decided m u c .outcome .answer) (decided m u c .outcome .effect)
 
 -- What steps 4 and 6 leave alone, field by field --------------------------------------------------------------------------
 

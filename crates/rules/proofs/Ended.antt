@@ -41,7 +41,7 @@ data Ended (m : Memory) (u : Unit) : Call → Ran → Type 0 where
 and-first : (a b : Bool) → (a && b) ≡ true → a ≡ true
 and-first a b e = and-eq-true-iff a b .0 e .0
 
-op-listed : (len : ℕ) (q : Access) → wellShaped len q ≡ true → q .op < 4
+pub op-listed : (len : ℕ) (q : Access) → wellShaped len q ≡ true → q .op < 4
 unfolding wellShaped listed
 op-listed len q s = ltb-true _ _ (and-first _ _ (and-first _ _ (and-first _ _ (and-first _ _ s))))
 
@@ -73,13 +73,13 @@ module _ {m : Memory} {u : Unit} where
   transfer-ended s (register {g = Register.Ktem}) (store e) = accepted refl nothing
   transfer-ended s (register {g = Register.Pad i}) (store e) = accepted refl nothing
 
-  granted-paged : {q : Access} {page : ℕ} → Granted m u q page → Paged m u q
+  pub granted-paged : {q : Access} {page : ℕ} → Granted m u q page → Paged m u q
   granted-paged s = s .steps .steps
 
   windowed-paged : {q : Access} → Windowed m u q → Paged m u q
   windowed-paged s = granted-paged (s .steps)
 
-  inner-granted-paged : {q : Access} {page : ℕ} → InnerGranted m u q page → Paged m u q
+  pub inner-granted-paged : {q : Access} {page : ℕ} → InnerGranted m u q page → Paged m u q
   inner-granted-paged s = windowed-paged (s .steps .steps)
 
   fault-paged : {q : Access} {f : Fault} {window : Bool} {tag : ℕ} {k : Cells} → AtFault m u q f window tag k → Paged m u q

@@ -21,6 +21,7 @@ pub mod Why
 pub mod Determined
 pub mod Kept
 pub mod Ended
+pub mod Effects
 pub mod Interrupts
 -- Demand 3
 pub mod Demand3
