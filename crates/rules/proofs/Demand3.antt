@@ -4,12 +4,14 @@ use mathlib.Core.Bool.{Bool, true, false}
 use mathlib.Core.List.{List, _++_}
 use Prim.Native.Nat.{ℕ, _+_, _≤_, _<_}
 use lib.ListN.{length, getD}
-use Rattle.rules.specs.Types.{Wait, Core, Maps, Cell, Cells, Unit, Call, Entry}
+use Rattle.rules.specs.Types.{Wait, Core, Maps, Cell, Cells, Unit, Access, Call, Register, Place, Entry, Fault, Answer}
 use Rattle.rules.specs.Memory.{Memory}
 use Rattle.rules.specs.Unit.{emptyCell}
 use Rattle.rules.specs.Maps.{looked, execZero, execZeroEntry, walkOf, entryOf, tagOf}
-use Rattle.rules.specs.Calls.{fresh}
-use Rattle.rules.specs.Runs.{Turn, unitAfter, seenAlong, Station, stationAfter, plainOf, plainAlong, History, noneInUse, isOutdated, meets, historyOf}
+use Rattle.rules.specs.Registers.{placeOf}
+use Rattle.rules.specs.Calls.{callOf, fresh}
+use Rattle.rules.specs.Runs.{Turn, unitAfter, seenAlong, Station, stationAfter, plainOf, plainAlong, deedOf, Use, unused, History, noneInUse, inUseAfter, struck, heard, isOutdated, meets, historyOf}
+use Rattle.rules.proofs.Demand1.{AtFault}
 
 -- a cell by its number, counted from 0; past the last there are empty ones
 abbrev pub cellAt : Cells → ℕ → Cell
@@ -61,6 +63,35 @@ pub record ExecZeroUncelled : Type 0 where
   pub look-up : (m : Memory) (r : Maps) (k : Cells) → looked m r false 0 k ≡ record { entry = execZeroEntry r; cells = k }
 
 -- The second part: on the premises. Proved in SameRun.antt -----------------------------------------------------------------------
+
+-- A store that is done, with its physical address at this place. (That a call is answered so is demand 1's matter.)
+pub record StoreDone (m : Memory) (u : Unit) (q : Access) (at : ℕ) (pl : Place) : Type 0 where
+  pub answer : callOf m u (Call.Access q) .reply .answer ≡ Answer.Done 0 at
+  pub operation : 1 < q .op
+  pub place : placeOf (length m) at ≡ pl
+
+-- "It is forgotten by INIT, a KTUM or KTEM store, or any of answers 4 to 9 with it as the page at fault.": `AtFault` of Demand1.antt says of each
+-- such answer which page is at fault, and an unpaged 9 has none
+pub data Forgets (m : Memory) (u : Unit) (tag : ℕ) : Call → Type 0 where
+  by-init : Forgets m u tag Call.Init
+  by-ktum-store : {q : Access} {at : ℕ} → StoreDone m u q at (Place.In Register.Ktum) → Forgets m u tag (Call.Access q)
+  by-ktem-store : {q : Access} {at : ℕ} → StoreDone m u q at (Place.In Register.Ktem) → Forgets m u tag (Call.Access q)
+  by-fault : {q : Access} {f : Fault} {window : Bool} {k : Cells} → AtFault m u q f window tag k → Forgets m u tag (Call.Access q)
+
+-- What a call makes of a page, from what is known of it once the call has gone to its pages: it is forgotten, or stored into, or stays as it is
+-- known, which is where the call neither forgets it nor stores into memory.
+pub data Becomes (m : Memory) (u : Unit) (tag : ℕ) (known : Use) : Call → Use → Type 0 where
+  forgotten : {c : Call} → Forgets m u tag c → Becomes m u tag known c unused
+  stored-into : {q : Access} {at : ℕ} → StoreDone m u q at Place.Memory → Becomes m u tag known (Call.Access q) (struck at known)
+  stays :
+      {c : Call} → (Forgets m u tag c → ⊥) → ((q : Access) (at : ℕ) → c ≡ Call.Access q → StoreDone m u q at Place.Memory → ⊥)
+      → Becomes m u tag known c known
+
+-- So the history of specs/Runs.antt, which goes by what a call does, goes by what it is answered, in 01's words. Proved in Histories.antt.
+abbrev pub HistoryByAnswers : Type 0
+HistoryByAnswers =
+    (m : Memory) (u : Unit) (h : History) (c : Call) (tag : ℕ)
+    → Becomes m u tag (inUseAfter h (deedOf m u c .visits) tag) c (heard h (deedOf m u c) tag)
 
 -- a cell that holds what the walk of its page now gives, so that this walk does not time out
 pub record HoldsItsPage (m : Memory) (r : Maps) (c : Cell) : Type 0 where
