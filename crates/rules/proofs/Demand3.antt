@@ -1,16 +1,18 @@
 -- Demand 3 as statements about the rules, with the few definitions that they need beside those of specs/Runs.antt.
 use mathlib.Core.Path.{_≡_}
 use mathlib.Core.Bool.{Bool, true, false}
-use mathlib.Core.List.{List, _++_}
+use mathlib.Core.List.{List, [], _∷_, _++_, map}
 use Prim.Native.Nat.{ℕ, _+_, _≤_, _<_}
 use lib.ListN.{length, getD}
-use Rattle.rules.specs.Types.{Wait, Core, Maps, Cell, Cells, Unit, Access, Call, Register, Place, Entry, Fault, Answer}
+use Rattle.rules.specs.Types.{Wait, Core, Maps, Cell, Cells, Unit, Access, Call, Register, Place, Entry, Fault, Answer, Physical}
 use Rattle.rules.specs.Memory.{Memory}
 use Rattle.rules.specs.Unit.{emptyCell}
 use Rattle.rules.specs.Maps.{looked, execZero, execZeroEntry, walkOf, entryOf, tagOf}
-use Rattle.rules.specs.Registers.{placeOf}
+use Rattle.rules.specs.Status.{packed}
+use Rattle.rules.specs.Registers.{foundFrom, wordsFrom, registers, registerFound, placeOf, ktic, ktsp, ktpc, ktps, ktad, ktdt, registerWord}
 use Rattle.rules.specs.Calls.{callOf, fresh}
-use Rattle.rules.specs.Runs.{Turn, unitAfter, seenAlong, Station, stationAfter, plainOf, plainAlong, deedOf, Use, unused, History, noneInUse, inUseAfter, struck, heard, isOutdated, meets, historyOf}
+use Rattle.rules.specs.Answers.{shown}
+use Rattle.rules.specs.Runs.{Seen, Turn, unitAfter, seenAlong, Station, stationAfter, plainOf, plainAlong, deedOf, Use, unused, History, noneInUse, inUseAfter, struck, heard, isOutdated, meets, historyOf}
 use Rattle.rules.proofs.Demand1.{AtFault}
 
 -- a cell by its number, counted from 0; past the last there are empty ones
@@ -120,3 +122,51 @@ PrefixesMeet = (m : Memory) (cs ds : List Call) → meets m fresh noneInUse (cs 
 -- memory are those of the unit with no cells, which walks the maps on every access.
 abbrev pub SameAsPlain : Type 0
 SameAsPlain = (m : Memory) (cs : List Call) → meets m fresh noneInUse cs ≡ true → seenAlong m fresh cs ≡ plainAlong m (plainOf fresh) cs
+
+-- The same in numbers ------------------------------------------------------------------------------------------------------------
+
+-- what a read of the register at this address gives, of a register that the cells do not take part in
+abbrev pub wordOf : Core → Maps → Place → ℕ
+wordOf c r Place.Memory = 0
+wordOf c r Place.Window = 0
+wordOf c r (Place.In g) = registerWord c r g
+wordOf c r Place.Nowhere = 0
+
+abbrev pub registerAt : Core → Maps → ℕ → ℕ
+registerAt c r at = wordOf c r (registerFound (foundFrom 0 registers at))
+
+-- What the host has after a call: the answer's number, data and physical address by 01's table (`shown` of specs/Answers.antt), the sixteen bits of
+-- KTCS, the words of 777600o to 777616o (KTIC, KTSP, KTPC, KTPS, KTAD, KTDT, KTUM and KTEM), and memory.
+pub record HostHas : Type 0 where
+  pub number : ℕ
+  pub datum : ℕ
+  pub physical : Physical
+  pub ktcs : ℕ
+  pub registers : List ℕ
+  pub memory : Memory
+
+abbrev pub hostHas : Seen → HostHas
+hostHas s =
+    record {
+      number = shown (s .answer) .number;
+      datum = shown (s .answer) .datum;
+      physical = shown (s .answer) .physical;
+      ktcs = packed (s .core .ktcs);
+      registers = map (registerAt (s .core) (s .maps)) (wordsFrom 0o777600 8);
+      memory = s .memory;
+    }
+
+-- After each call of a run that meets the premises the host has, number for number, what the unit with no cells would have given it.
+abbrev pub SameToTheHost : Type 0
+SameToTheHost =
+    (m : Memory) (cs : List Call) → meets m fresh noneInUse cs ≡ true
+    → map hostHas (seenAlong m fresh cs) ≡ map hostHas (plainAlong m (plainOf fresh) cs)
+
+-- That those eight words are the registers by their names.
+abbrev pub RegistersByAddress : Type 0
+RegistersByAddress =
+    (c : Core) (r : Maps)
+    → (registerAt c r 0o777576 ≡ packed (c .ktcs))
+    × (map (registerAt c r) (wordsFrom 0o777600 8)
+    ≡ getD (c .kept) ktic 0 ∷ getD (c .kept) ktsp 0 ∷ getD (c .kept) ktpc 0 ∷ getD (c .kept) ktps 0 ∷ getD (c .kept) ktad 0
+    ∷ getD (c .kept) ktdt 0 ∷ r .ktum ∷ r .ktem ∷ [])

@@ -1,11 +1,13 @@
 -- On the premises a run is that of the unit with no cells, and leaves cells that are true.
 use mathlib.Core.Path.{_≡_, refl, sym, ap, ap₂, subst, _∙_}
 use mathlib.Core.Bool.{Bool, true, false, not, _&&_}
-use mathlib.Core.List.{List, [], _∷_, _++_}
+use mathlib.Core.List.{List, [], _∷_, _++_, map}
 use borrow.Author.Tests.{not-true}
 use Rattle.rules.specs.Types.{Maps, Cells, Unit, Call, Entry, Outcome}
 use Rattle.rules.specs.Memory.{Memory}
 use Rattle.rules.specs.Unit.{cellCount, zeroUnit}
+use Rattle.rules.specs.Choice.{pick}
+use Rattle.rules.specs.Registers.{foundFrom, wordsFrom, registers, registerOf, registerFound, registerWord}
 use Rattle.rules.specs.Maps.{looked}
 use Rattle.rules.specs.Program.{Prog, run, plainRun}
 use Rattle.rules.specs.Order.{outcome}
@@ -19,7 +21,7 @@ use Rattle.rules.proofs.Endings.{Ending, call-ends}
 use Rattle.rules.proofs.Sound.{Sound, asked, effect-sound, emptied-sound}
 use Rattle.rules.proofs.Pages.{pageBy, nonzero-tag}
 use Rattle.rules.proofs.Wellformed.{fresh-fit, station-fit}
-use Rattle.rules.proofs.Demand3.{CellsTrue, PrefixesMeet, SameAsPlain}
+use Rattle.rules.proofs.Demand3.{hostHas, CellsTrue, PrefixesMeet, SameAsPlain, SameToTheHost, RegistersByAddress}
 
 -- One call -------------------------------------------------------------------------------------------------------------------------
 
@@ -123,3 +125,10 @@ prefixes-meet m cs ds e = meets-prefix m fresh noneInUse cs ds e
 
 pub same-as-plain : SameAsPlain
 same-as-plain m cs e = run-same m fresh noneInUse cs (fresh-sound m) e
+
+pub same-to-the-host : SameToTheHost
+same-to-the-host m cs e = ap (map hostHas) (same-as-plain m cs e)
+
+pub registers-by-address : RegistersByAddress
+unfolding registerWord registerFound registerOf foundFrom wordsFrom registers pick
+registers-by-address c r = (refl, refl)
