@@ -16,7 +16,7 @@ use Rattle.rules.specs.Steps.{wellShaped, dueOf, oddWord, watches, forbi
 use Rattle.rules.specs.Sequences.{violated, timedOut, statusStored, programCounterStored, firstReadDone, userStarted, interrupted, trapTwice, trapped, vectorListed, idle}
 use Rattle.rules.specs.Program.{run}
 use Rattle.rules.specs.Order.{wordRead, storedAt, flagAfter, windowAddr}
-use Rattle.rules.specs.Calls.{After, called, callOf}
+use Rattle.rules.specs.Calls.{After, called, settled, callOf}
 use Rattle.rules.specs.Answers.{faultShown, shown}
 
 -- An access under way ----------------------------------------------------------------------------------------------------
@@ -272,9 +272,13 @@ pub data Why (m : Memory) (u : Unit) : Call → Ran → Type 0 where
   -- INIT: "It is always accepted."
   init : Why m u Call.Init (ending (Answer.Taken 0) (initCore (u .core)) (Effect.Reload (u .maps)) (u .cells))
 
--- what a call decides; `callOf` carries it out
+-- what a call decides
 abbrev pub decided : Memory → Unit → Call → Ran
 decided m u c = run m (u .maps) (called m (u .core) (u .maps) c) (u .cells)
+
+-- a call is its decision, carried out: what is said of the one is said of the other
+abbrev pub CarriedOut : Type 0
+CarriedOut = (m : Memory) (u : Unit) (c : Call) → callOf m u c ≡ settled m (u .maps) (decided m u c)
 
 -- "a call has an answer .. and which one is as 01's order of steps says"
 abbrev pub Explained : Type 0

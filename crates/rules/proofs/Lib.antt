@@ -35,3 +35,6 @@ pub mod SameRun
 pub mod Wellformed
 pub mod Premises
 pub mod Versions
+-- Demand 2
+pub mod OneOutcome
+pub mod Refuted

@@ -14,14 +14,14 @@ use Rattle.rules.specs.Steps.{wellShaped, dueOf, oddWord, keysOf, judged
 use Rattle.rules.specs.Sequences.{vectorListed, idle}
 use Rattle.rules.specs.Program.{Prog, run}
 use Rattle.rules.specs.Order.{outcome, refused, faulted, outerFault, wordRead, transferred, fetched, wordJudged, unpagedReached, unpagedTimeOut, unpagedTarget, unpagedFrom, windowAddr, innerFault, innerTarget, innerRuled, windowed, pagedReached, outerTarget, outerRuled, pagedFrom, sequenced, afterWait, accessed}
-use Rattle.rules.specs.Calls.{interruptOf, trapOf, initOf, called}
+use Rattle.rules.specs.Calls.{interruptOf, trapOf, initOf, called, callOf}
 use Rattle.rules.proofs.Choices.{picked}
 use Rattle.rules.proofs.RunLaws.{run-readAt}
 use Rattle.rules.proofs.Demand1.{job, outer, inner, outerAt, innerAt, locked, hidden, Keys, off-map, not-resident, not-writable, not-public, granted, exec-zero, memory, register, Transfer, read, store}
 use Rattle.rules.proofs.Demand1.{Begun, Unpaged, UnpagedThere, Paged, Asked, Granted, PagedThere, Windowed, InnerAsked, InnerGranted}
 use Rattle.rules.proofs.Demand1.{odd, keys-refuse, nowhere, window-by-fetch, forbidden-word, inner-odd, inner-keys-refuse, inner-nowhere, window-on-window}
 use Rattle.rules.proofs.Demand1.{Way, misshapen, late, status-stored, program-counter-stored, first-read, second-read, unpaged-odd, unpaged-nowhere, unpaged-window, unpaged-fetch, unpaged-transfer, violation, fetch, transfer, inner-transfer}
-use Rattle.rules.proofs.Demand1.{Why, access, interrupt-late, interrupt-taken, unlisted, trap-late, trap-taken, init, decided, Explained}
+use Rattle.rules.proofs.Demand1.{Why, access, interrupt-late, interrupt-taken, unlisted, trap-late, trap-taken, init, decided, CarriedOut, Explained}
 
 -- Steps 6 to 9 -----------------------------------------------------------------------------------------------------------
 
@@ -172,3 +172,7 @@ why m u (Call.Trap v) =
     picked (callEnds m u (Call.Trap v)) (vectorListed v) _ _
     (λ s. picked (callEnds m u (Call.Trap v)) (idle (u .core .wait) (u .core .ktcs .fcn)) _ _ (trap-taken s) (trap-late s)) unlisted
 why m u Call.Init = init
+
+pub carried-out : CarriedOut
+unfolding callOf
+carried-out m u c = refl
