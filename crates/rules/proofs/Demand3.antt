@@ -3,17 +3,19 @@ use mathlib.Core.Path.{_≡_}
 use mathlib.Core.Bool.{Bool, true, false}
 use mathlib.Core.List.{List, [], _∷_, _++_, map}
 use Prim.Native.Nat.{ℕ, _+_, _≤_, _<_}
+use lib.Dec.{ltb}
 use lib.ListN.{length, getD}
 use Rattle.rules.specs.Types.{Wait, Core, Maps, Cell, Cells, Unit, Access, Call, Register, Place, Entry, Fault, Answer, Physical}
 use Rattle.rules.specs.Memory.{Memory}
 use Rattle.rules.specs.Unit.{emptyCell}
-use Rattle.rules.specs.Maps.{looked, execZero, execZeroEntry, walkOf, entryOf, tagOf}
+use Rattle.rules.specs.Maps.{pageOf, looked, execZero, execZeroEntry, walkOf, entryOf, tagOf}
 use Rattle.rules.specs.Status.{packed}
 use Rattle.rules.specs.Registers.{foundFrom, wordsFrom, registers, registerFound, placeOf, ktic, ktsp, ktpc, ktps, ktad, ktdt, registerWord}
+use Rattle.rules.specs.Order.{windowAddr}
 use Rattle.rules.specs.Calls.{callOf, fresh}
 use Rattle.rules.specs.Answers.{shown}
-use Rattle.rules.specs.Runs.{Seen, Turn, unitAfter, seenAlong, Station, stationAfter, plainOf, plainAlong, deedOf, Use, unused, History, noneInUse, inUseAfter, struck, heard, isOutdated, meets, historyOf}
-use Rattle.rules.proofs.Demand1.{AtFault}
+use Rattle.rules.specs.Runs.{Seen, Turn, unitAfter, seenAlong, Station, stationAfter, plainOf, plainAlong, Visit, visit, deedOf, Use, unused, History, noneInUse, inUseAfter, struck, heard, isOutdated, meets, historyOf}
+use Rattle.rules.proofs.Demand1.{job, Asked, InnerAsked, AtFault}
 
 -- a cell by its number, counted from 0; past the last there are empty ones
 abbrev pub cellAt : Cells → ℕ → Cell
@@ -65,6 +67,52 @@ pub record ExecZeroUncelled : Type 0 where
   pub look-up : (m : Memory) (r : Maps) (k : Cells) → looked m r false 0 k ≡ record { entry = execZeroEntry r; cells = k }
 
 -- The second part: on the premises. Proved in SameRun.antt -----------------------------------------------------------------------
+
+-- What an access does, in terms of its steps and its answer. The premises are computed from what a call does (`deedOf` of specs/Runs.antt), and
+-- these say that this is what 01's words say.
+
+-- "A window's access goes to its outer page and, once reached, to its inner one.": an access goes to the page of its address where step 6 asks for
+-- that page's entry, and to a window's inner page where step 6 is come to again (`Asked` and `InnerAsked` of Demand1.antt).
+pub data GoesTo (m : Memory) (u : Unit) (q : Access) : List Visit → Type 0 where
+  no-page : (Asked m u q → ⊥) → GoesTo m u q []
+  one-page : Asked m u q → (InnerAsked m u q → ⊥) → GoesTo m u q (visit m (u .maps) (job u q .core .ktcs .um) (pageOf (q .addr)))
+  two-pages :
+      InnerAsked m u q
+      → GoesTo m u q (visit m (u .maps) (job u q .core .ktcs .um) (pageOf (q .addr)) ++ visit m (u .maps) true (pageOf (windowAddr (job u q))))
+
+abbrev pub GoesBySteps : Type 0
+GoesBySteps = (m : Memory) (u : Unit) (q : Access) → GoesTo m u q (deedOf m u (Call.Access q) .visits)
+
+-- "no call reaches the scratchpad words or the replacement register": told by the physical address that comes back with answers 0 and 8. A
+-- scratchpad word is reached by any operation, KTMR by those that read; a store into KTMR does nothing, and the premise does without it.
+abbrev pub inCells : ℕ → Place → Bool
+inCells op Place.Memory = false
+inCells op Place.Window = false
+inCells op (Place.In Register.Ktmr) = ltb op 2
+inCells op (Place.In Register.Ktcs) = false
+inCells op (Place.In (Register.Kept i)) = false
+inCells op (Place.In Register.Ktum) = false
+inCells op (Place.In Register.Ktem) = false
+inCells op (Place.In (Register.Pad i)) = true
+inCells op Place.Nowhere = false
+
+abbrev pub placeAt : Memory → Physical → Place
+placeAt m (Physical.At at) = placeOf (length m) at
+placeAt m Physical.Nowhere = Place.Nowhere
+
+abbrev pub ReachesByAnswer : Type 0
+ReachesByAnswer =
+    (m : Memory) (u : Unit) (q : Access)
+    → deedOf m u (Call.Access q) .reaches ≡ inCells (q .op) (placeAt m (shown (callOf m u (Call.Access q) .reply .answer) .physical))
+
+-- An interrupt, a trap and INIT go to no page and reach nothing.
+pub record OtherCallsIdle (m : Memory) (u : Unit) : Type 0 where
+  pub interrupt-visits : deedOf m u Call.Interrupt .visits ≡ []
+  pub interrupt-reaches : deedOf m u Call.Interrupt .reaches ≡ false
+  pub trap-visits : (v : ℕ) → deedOf m u (Call.Trap v) .visits ≡ []
+  pub trap-reaches : (v : ℕ) → deedOf m u (Call.Trap v) .reaches ≡ false
+  pub init-visits : deedOf m u Call.Init .visits ≡ []
+  pub init-reaches : deedOf m u Call.Init .reaches ≡ false
 
 -- A store that is done, with its physical address at this place. (That a call is answered so is demand 1's matter.)
 pub record StoreDone (m : Memory) (u : Unit) (q : Access) (at : ℕ) (pl : Place) : Type 0 where

@@ -25,6 +25,7 @@ pub mod Effects
 pub mod Interrupts
 -- Demand 3
 pub mod Demand3
+pub mod Goes
 pub mod Histories
 pub mod Always
 pub mod Endings
