@@ -114,6 +114,9 @@ pub record OtherCallsIdle (m : Memory) (u : Unit) : Type 0 where
   pub init-visits : deedOf m u Call.Init .visits ≡ []
   pub init-reaches : deedOf m u Call.Init .reaches ≡ false
 
+abbrev pub OthersGoNowhere : Type 0
+OthersGoNowhere = (m : Memory) (u : Unit) → OtherCallsIdle m u
+
 -- A store that is done, with its physical address at this place. (That a call is answered so is demand 1's matter.)
 pub record StoreDone (m : Memory) (u : Unit) (q : Access) (at : ℕ) (pl : Place) : Type 0 where
   pub answer : callOf m u (Call.Access q) .reply .answer ≡ Answer.Done 0 at

@@ -1,12 +1,12 @@
 -- What a call does beside its answer and the core goes by its answer: every way to end, with its effect.
 use Prim.Native.Nat.{ℕ, _%_, _<_}
 use mathlib.Core.Bool.{true, false, not, _&&_, _||_}
-use mathlib.Core.Path.{_≡_, refl}
+use mathlib.Core.Path.{_≡_}
 use native.Mathlib.Omega.{arith}
 use lib.Dec.{eqb, ltb, lit<}
 use lib.ListN.{length}
 use borrow.Author.Tests.{ltb-true, ltb-false, eqb-true, eqb-false, not-true, not-false}
-use Rattle.rules.specs.Types.{Cells, Unit, Access, Call, Place, Part, Register, Answer, Effect, Ran}
+use Rattle.rules.specs.Types.{Cells, Unit, Access, Call, Place, Part, Register, Answer, Ran}
 use Rattle.rules.specs.Memory.{Memory, goodLength}
 use Rattle.rules.specs.Registers.{placeOf, partOf}
 use Rattle.rules.specs.Fetched.{isFetch}
@@ -14,7 +14,7 @@ use Rattle.rules.specs.Steps.{listed, wordDati, illFitting, wellShaped}
 use Rattle.rules.specs.Order.{outcome, storedAt, memoryEffect, registerEffect}
 use Rattle.rules.specs.Answers.{shownAs, shown}
 use Rattle.rules.proofs.Choices.{both-true, both-false, second-false, picked}
-use Rattle.rules.proofs.Demand1.{job, There, memory, register, Transfer, read, store, Begun}
+use Rattle.rules.proofs.Demand1.{job, There, memory, register, Transfer, read, store}
 use Rattle.rules.proofs.Demand1.{Way, misshapen, late, status-stored, program-counter-stored, first-read, second-read, unpaged-odd, unpaged-nowhere, unpaged-window, unpaged-fetch, unpaged-transfer, violation, fetch, transfer, inner-transfer}
 use Rattle.rules.proofs.Demand1.{Why, access, interrupt-late, interrupt-taken, unlisted, trap-late, trap-taken, init}
 use Rattle.rules.proofs.Demand1.{Stores, word-store, byte-store, ktmr-store, ktcs-store, kept-store, ktum-store, ktem-store, pad-store}
@@ -23,7 +23,7 @@ use Rattle.rules.proofs.Ended.{op-listed, granted-paged, inner-granted-
 use Rattle.rules.proofs.Why.{why}
 
 -- "FETCH not a word DATI" is refused: a fetch that comes to its steps reads
-fetch-reads : (len : ℕ) (q : Access) → wellShaped len q ≡ true → isFetch q ≡ true → q .op < 2
+pub fetch-reads : (len : ℕ) (q : Access) → wellShaped len q ≡ true → isFetch q ≡ true → q .op < 2
 unfolding wellShaped illFitting wordDati
 fetch-reads len q s e =
     let (l, _) = both-true _ (goodLength len) s in

@@ -1,24 +1,23 @@
 -- The pages that an access goes to are those whose entry its steps ask for.
 use Prim.Native.Nat.{ℕ}
-use mathlib.Core.Bool.{Bool, true, false}
-use mathlib.Core.Path.{_≡_, refl, sym, ap, subst, _∙_}
-use mathlib.Core.List.{List, [], _∷_, _++_, append-nil}
+use mathlib.Core.Bool.{true}
+use mathlib.Core.Path.{_≡_, refl, sym, ap, _∙_}
+use mathlib.Core.List.{List, [], _++_, append-nil}
 use native.Mathlib.Omega.{arith}
 use lib.Dec.{ltb}
 use lib.ListN.{length}
-use Rattle.rules.specs.Types.{Cells, Unit, Access, Call, Place, Register, Entry, Due, Ruling, Answer, Effect, Physical, Job}
+use Rattle.rules.specs.Types.{Cells, Unit, Access, Place, Register, Entry, Due, Ruling, Job}
 use Rattle.rules.specs.Memory.{Memory}
-use Rattle.rules.specs.Registers.{placeOf, partOf}
+use Rattle.rules.specs.Registers.{placeOf}
 use Rattle.rules.specs.Maps.{unpaged, unpagedAt, pageOf}
 use Rattle.rules.specs.Fetched.{isFetch}
-use Rattle.rules.specs.Steps.{wellShaped, dueOf, oddWord, judged, watches, forbidden}
-use Rattle.rules.specs.Sequences.{vectorListed, idle}
-use Rattle.rules.specs.Program.{Prog, run}
-use Rattle.rules.specs.Order.{outcome, refused, faulted, outerFault, readIn, readAt, registerEffect, memoryEffect, storedAt, transferred, fetched, wordJudged, unpagedReached, unpagedTimeOut, unpagedTarget, unpagedFrom, windowAddr, innerFault, innerTarget, innerRuled, windowed, pagedReached, outerTarget, outerRuled, pagedFrom, sequenced, afterWait, accessed}
+use Rattle.rules.specs.Steps.{wellShaped, dueOf, oddWord, watches, forbidden}
+use Rattle.rules.specs.Program.{Prog}
+use Rattle.rules.specs.Order.{refused, faulted, outerFault, readIn, readAt, transferred, fetched, wordJudged, unpagedReached, unpagedTimeOut, unpagedTarget, unpagedFrom, windowAddr, innerFault, innerTarget, innerRuled, windowed, pagedReached, outerTarget, outerRuled, pagedFrom, sequenced, afterWait, accessed}
 use Rattle.rules.specs.Calls.{called}
 use Rattle.rules.specs.Runs.{Visit, visit, visitsOf, deedIn, deedOf}
 use Rattle.rules.proofs.Choices.{true-is-not-false, picked}
-use Rattle.rules.proofs.Demand1.{job, outer, inner, outerAt, innerAt, Keys, Paged, Begun, Asked, Granted, Windowed, InnerAsked}
+use Rattle.rules.proofs.Demand1.{job, outer, outerAt, Keys, Paged, Asked, Granted, Windowed, InnerAsked}
 use Rattle.rules.proofs.Determined.{keys-judged}
 use Rattle.rules.proofs.Why.{judged-keys}
 use Rattle.rules.proofs.Demand3.{GoesTo, no-page, one-page, two-pages, GoesBySteps}

@@ -13,7 +13,7 @@ use Rattle.rules.specs.Program.{run}
 use Rattle.rules.specs.Order.{outcome}
 use Rattle.rules.specs.Calls.{initOf, called, settled, callOf}
 use Rattle.rules.specs.Answers.{shownAs, shown}
-use Rattle.rules.specs.Runs.{deedIn, deedOf, Use, unused, History, told, inUseAfter, historyAfter, heard}
+use Rattle.rules.specs.Runs.{deedIn, deedOf, History, told, inUseAfter, historyAfter, heard}
 use Rattle.rules.proofs.Choices.{true-is-not-false, picked}
 use Rattle.rules.proofs.Demand1.{decided, access, violation}
 use Rattle.rules.proofs.Demand1.{Stores, word-store, byte-store, ktmr-store, ktcs-store, kept-store, ktum-store, ktem-store, pad-store}

@@ -26,6 +26,7 @@ pub mod Interrupts
 -- Demand 3
 pub mod Demand3
 pub mod Goes
+pub mod Reaches
 pub mod Histories
 pub mod Always
 pub mod Endings

@@ -1,7 +1,7 @@
 -- The four empty programs of document 01, each shut out by demand 2: named calls at which a program of that kind is not the rules.
 use Prim.Native.Nat.{ℕ}
 use mathlib.Core.Path.{_≡_, sym, ap, _∙_}
-use mathlib.Core.List.{List, [], _∷_}
+use mathlib.Core.List.{[], _∷_}
 use native.Mathlib.Omega.{arith}
 use lib.ListN.{getD}
 use Rattle.rules.specs.Types.{Unit, Access, Call, Physical}
