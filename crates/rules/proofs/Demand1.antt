@@ -5,7 +5,7 @@ use mathlib.Core.Path.{_≡_}
 use mathlib.Core.Logic.{_≢_}
 use lib.Dec.{eqb, ltb}
 use lib.ListN.{length, getD}
-use Rattle.rules.specs.Types.{Ktcs, Core, Maps, Cells, Unit, Access, Call, Found, Register, Place, Entry, Looked, Due, Fault, Ruling, Answer, Effect, Job, Ran}
+use Rattle.rules.specs.Types.{Ktcs, Core, Maps, Cells, Unit, Access, Call, Found, Register, Place, Entry, Looked, Due, Fault, Ruling, Answer, Physical, Effect, Job, Ran}
 use Rattle.rules.specs.Memory.{Memory, storeWord, storeByte}
 use Rattle.rules.specs.Unit.{emptyCell, withFetch, initCore}
 use Rattle.rules.specs.Status.{flagsClear}
@@ -297,6 +297,12 @@ numberOf a = shown (a .reply .answer) .number
 -- "one of 0 to 9"
 abbrev pub Numbered : Type 0
 Numbered = (m : Memory) (u : Unit) (c : Call) → numberOf (callOf m u c) < 10
+
+-- "18-bit address": of an access at a 16-bit address, each physical address that comes back is one
+abbrev pub EighteenBits : Type 0
+EighteenBits =
+    (m : Memory) (u : Unit) (q : Access) (at : ℕ) → q .addr < 0o200000
+    → shown (callOf m u (Call.Access q) .reply .answer) .physical ≡ Physical.At at → at < 0o1000000
 
 -- Memory -----------------------------------------------------------------------------------------------------------------
 

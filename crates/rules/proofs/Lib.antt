@@ -22,6 +22,7 @@ pub mod Determined
 pub mod Kept
 pub mod Ended
 pub mod Effects
+pub mod Bits
 pub mod Interrupts
 -- Demand 3
 pub mod Demand3
