@@ -66,10 +66,10 @@ pub record ExecZeroUncelled : Type 0 where
   pub tag-other : (user : Bool) (p : ℕ) → execZero user p ≡ false → tagOf user p ≡ 0 → ⊥
   pub look-up : (m : Memory) (r : Maps) (k : Cells) → looked m r false 0 k ≡ record { entry = execZeroEntry r; cells = k }
 
--- The second part: on the premises. Proved in SameRun.antt -----------------------------------------------------------------------
+-- The words of the premises. Proved in Goes.antt, Reaches.antt and Histories.antt --------------------------------------------------
 
--- What an access does, in terms of its steps and its answer. The premises are computed from what a call does (`deedOf` of specs/Runs.antt), and
--- these say that this is what 01's words say.
+-- The premises are computed along a run from what each call does (`meets` and `deedOf` of specs/Runs.antt). The statements up to the next line
+-- say that this is what 01's words say, by the steps and the answer of the call.
 
 -- "A window's access goes to its outer page and, once reached, to its inner one.": an access goes to the page of its address where step 6 asks for
 -- that page's entry, and to a window's inner page where step 6 is come to again (`Asked` and `InnerAsked` of Demand1.antt).
@@ -140,11 +140,13 @@ pub data Becomes (m : Memory) (u : Unit) (tag : ℕ) (known : Use) : Call → Us
       {c : Call} → (Forgets m u tag c → ⊥) → ((q : Access) (at : ℕ) → c ≡ Call.Access q → StoreDone m u q at Place.Memory → ⊥)
       → Becomes m u tag known c known
 
--- So the history of specs/Runs.antt, which goes by what a call does, goes by what it is answered, in 01's words. Proved in Histories.antt.
+-- So the history of specs/Runs.antt, which goes by what a call does, goes by what it is answered, in 01's words.
 abbrev pub HistoryByAnswers : Type 0
 HistoryByAnswers =
     (m : Memory) (u : Unit) (h : History) (c : Call) (tag : ℕ)
     → Becomes m u tag (inUseAfter h (deedOf m u c .visits) tag) c (heard h (deedOf m u c) tag)
+
+-- The second part: on the premises. Proved in SameRun.antt -----------------------------------------------------------------------
 
 -- a cell that holds what the walk of its page now gives, so that this walk does not time out
 pub record HoldsItsPage (m : Memory) (r : Maps) (c : Cell) : Type 0 where
@@ -168,6 +170,12 @@ CellsTrue =
 -- A run that meets the premises does so up to each of its calls: what is said of the end is said of every prefix.
 abbrev pub PrefixesMeet : Type 0
 PrefixesMeet = (m : Memory) (cs ds : List Call) → meets m fresh noneInUse (cs ++ ds) ≡ true → meets m fresh noneInUse cs ≡ true
+
+-- So the cells are true after every call of a run that meets the premises, and not at its end alone.
+abbrev pub CellsTrueThroughout : Type 0
+CellsTrueThroughout =
+    (m : Memory) (cs ds : List Call) → meets m fresh noneInUse (cs ++ ds) ≡ true
+    → CellsTrueAt (stationAfter m fresh cs) (historyOf m fresh noneInUse cs)
 
 -- After each call of such a run the answer with its data and physical address, KTCS, the registers, the wait, the fetch memory and every byte of
 -- memory are those of the unit with no cells, which walks the maps on every access.

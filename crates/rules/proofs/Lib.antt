@@ -1,4 +1,5 @@
--- What is proved of the rules: the promises of demands 1 and 3, the worked numbers of document 01, and laws that the code's proofs cite.
+-- What is proved of the rules: the promises of demands 1 and 3, that contracts over them leave one outcome, the worked numbers of document 01, and
+-- laws that the code's proofs cite.
 -- Computation
 pub mod Opened
 pub mod Starred

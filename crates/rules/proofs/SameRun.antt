@@ -21,7 +21,7 @@ use Rattle.rules.proofs.Endings.{Ending, call-ends}
 use Rattle.rules.proofs.Sound.{Sound, asked, effect-sound, emptied-sound}
 use Rattle.rules.proofs.Pages.{pageBy, nonzero-tag}
 use Rattle.rules.proofs.Wellformed.{fresh-fit, station-fit}
-use Rattle.rules.proofs.Demand3.{hostHas, CellsTrue, PrefixesMeet, SameAsPlain, SameToTheHost, RegistersByAddress}
+use Rattle.rules.proofs.Demand3.{hostHas, CellsTrue, PrefixesMeet, CellsTrueThroughout, SameAsPlain, SameToTheHost, RegistersByAddress}
 
 -- One call -------------------------------------------------------------------------------------------------------------------------
 
@@ -122,6 +122,9 @@ cells-true m cs e i z n =
 
 pub prefixes-meet : PrefixesMeet
 prefixes-meet m cs ds e = meets-prefix m fresh noneInUse cs ds e
+
+pub cells-true-throughout : CellsTrueThroughout
+cells-true-throughout m cs ds e = cells-true m cs (prefixes-meet m cs ds e)
 
 pub same-as-plain : SameAsPlain
 same-as-plain m cs e = run-same m fresh noneInUse cs (fresh-sound m) e
