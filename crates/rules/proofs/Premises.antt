@@ -207,7 +207,8 @@ pub record EachPremiseNeeded : Type 0 where
       seenIn (callOf hostChanged (stationAfter memory fresh beforeHost .unit) (readPage 1))
       ≡ plainCall hostChanged (plainOf (stationAfter memory fresh beforeHost .unit)) (readPage 1) → ⊥
 
-abbrev sumOf : List Told → ℕ
+-- the sum of the data along a run, by which two runs are told apart
+abbrev pub sumOf : List Told → ℕ
 sumOf [] = 0
 sumOf (s ∷ ss) = s .datum + sumOf ss
 

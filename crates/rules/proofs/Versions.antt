@@ -1,5 +1,6 @@
 -- The three faults that shipped, and an error that looks right, as rules that differ from 01's in what a call leaves in the cells, and a computed run that tells each apart.
 use Prim.Native.Nat.{ℕ, _+_}
+use native.Mathlib.Omega.{arith}
 use mathlib.Core.Path.{_≡_, refl, ap}
 use mathlib.Core.Bool.{true}
 use mathlib.Core.List.{List, [], _∷_, _++_, map}
@@ -14,7 +15,7 @@ use Rattle.rules.specs.Calls.{After, called, mapsAfter, cellsAfter, memo
 use Rattle.rules.specs.Runs.{Seen, seenIn, seenAlong, noneInUse, meets}
 use Rattle.rules.proofs.Opened.{opened}
 use Rattle.rules.proofs.Worked.{A}
-use Rattle.rules.proofs.Premises.{toldBy, ans, stored, W, memory, pagingOn, readPage, movePage}
+use Rattle.rules.proofs.Premises.{toldBy, ans, stored, W, memory, pagingOn, readPage, movePage, sumOf}
 
 -- what a version leaves in the cells: by the call, the map registers before it, its effect, and the cells after its look-ups
 abbrev pub Version : Type 0
@@ -101,13 +102,25 @@ pub record OneDiffers : Type 0 where
   pub met : meets (twoMaps 0) fresh noneInUse ktumChanged ≡ true
   pub rules : map toldBy (seenAlong (twoMaps 0) fresh ktumChanged) ≡ ans 0 0 ∷ ans 0 0 ∷ ans 0 0 ∷ ans 0 0o111 ∷ ans 0 0 ∷ ans 0 0o222 ∷ []
   pub version : map toldBy (seenBy one (twoMaps 0) fresh ktumChanged) ≡ ans 0 0 ∷ ans 0 0 ∷ ans 0 0 ∷ ans 0 0o111 ∷ ans 0 0 ∷ ans 0 0o111 ∷ []
+  pub differs : seenBy one (twoMaps 0) fresh ktumChanged ≡ seenAlong (twoMaps 0) fresh ktumChanged → ⊥
   pub twin-met : meets (twoMaps 0o400) fresh noneInUse ktemChanged ≡ true
   pub twin-rules : map toldBy (seenAlong (twoMaps 0o400) fresh ktemChanged) ≡ ans 0 0 ∷ ans 0 0 ∷ ans 0 0o111 ∷ ans 0 0 ∷ ans 0 0o222 ∷ []
   pub twin-version : map toldBy (seenBy twin (twoMaps 0o400) fresh ktemChanged) ≡ ans 0 0 ∷ ans 0 0 ∷ ans 0 0o111 ∷ ans 0 0 ∷ ans 0 0o111 ∷ []
+  pub twin-differs : seenBy twin (twoMaps 0o400) fresh ktemChanged ≡ seenAlong (twoMaps 0o400) fresh ktemChanged → ⊥
 
 pub one-differs : OneDiffers
 unfolding opened
-one-differs = record { met = refl; rules = refl; version = refl; twin-met = refl; twin-rules = refl; twin-version = refl }
+one-differs =
+    record {
+      met = refl;
+      rules = refl;
+      version = refl;
+      differs = λ e. omega (arith, ap (λ (l : List Seen). sumOf (map toldBy l)) e);
+      twin-met = refl;
+      twin-rules = refl;
+      twin-version = refl;
+      twin-differs = λ e. omega (arith, ap (λ (l : List Seen). sumOf (map toldBy l)) e);
+    }
 
 -- "or only on word stores" --------------------------------------------------------------------------------------------------------
 
@@ -120,10 +133,11 @@ pub record WordsOnlyDiffers : Type 0 where
   pub met : meets (twoMaps 0) fresh noneInUse byteChanged ≡ true
   pub rules : map toldBy (seenAlong (twoMaps 0) fresh byteChanged) ≡ ans 0 0 ∷ ans 0 0 ∷ ans 0 0 ∷ ans 0 0o111 ∷ ans 0 0 ∷ ans 0 0o222 ∷ []
   pub version : map toldBy (seenBy wordsOnly (twoMaps 0) fresh byteChanged) ≡ ans 0 0 ∷ ans 0 0 ∷ ans 0 0 ∷ ans 0 0o111 ∷ ans 0 0 ∷ ans 0 0o111 ∷ []
+  pub differs : seenBy wordsOnly (twoMaps 0) fresh byteChanged ≡ seenAlong (twoMaps 0) fresh byteChanged → ⊥
 
 pub words-only-differs : WordsOnlyDiffers
 unfolding opened
-words-only-differs = record { met = refl; rules = refl; version = refl }
+words-only-differs = record { met = refl; rules = refl; version = refl; differs = λ e. omega (arith, ap (λ (l : List Seen). sumOf (map toldBy l)) e) }
 
 -- Version two ------------------------------------------------------------------------------------------------------------------
 
@@ -134,10 +148,11 @@ counterRead = pagingOn ++ (readPage 1 ∷ readPage 2 ∷ A 0 1 0 0o177574 0 ∷ 
 pub record TwoDiffers : Type 0 where
   pub rules : map toldBy (seenAlong memory fresh counterRead) ≡ ans 0 0 ∷ ans 0 0 ∷ ans 0 0o111 ∷ ans 0 0o111 ∷ ans 0 0o005400 ∷ []
   pub version : map toldBy (seenBy two memory fresh counterRead) ≡ ans 0 0 ∷ ans 0 0 ∷ ans 0 0o111 ∷ ans 0 0o111 ∷ ans 0 0o004400 ∷ []
+  pub differs : seenBy two memory fresh counterRead ≡ seenAlong memory fresh counterRead → ⊥
 
 pub two-differs : TwoDiffers
 unfolding opened
-two-differs = record { rules = refl; version = refl }
+two-differs = record { rules = refl; version = refl; differs = λ e. omega (arith, ap (λ (l : List Seen). sumOf (map toldBy l)) e) }
 
 -- Version three ----------------------------------------------------------------------------------------------------------------
 
@@ -153,7 +168,8 @@ pub record ThreeDiffers : Type 0 where
   pub met : meets absent fresh noneInUse broughtIn ≡ true
   pub rules : map toldBy (seenAlong absent fresh broughtIn) ≡ ans 0 0 ∷ ans 0 0 ∷ ans 5 0 ∷ ans 0 0 ∷ ans 0 0 ∷ ans 0 0 ∷ ans 0 0o222 ∷ []
   pub version : map toldBy (seenBy three absent fresh broughtIn) ≡ ans 0 0 ∷ ans 0 0 ∷ ans 5 0 ∷ ans 0 0 ∷ ans 0 0 ∷ ans 0 0 ∷ ans 5 0 ∷ []
+  pub differs : seenBy three absent fresh broughtIn ≡ seenAlong absent fresh broughtIn → ⊥
 
 pub three-differs : ThreeDiffers
 unfolding opened
-three-differs = record { met = refl; rules = refl; version = refl }
+three-differs = record { met = refl; rules = refl; version = refl; differs = λ e. omega (arith, ap (λ (l : List Seen). sumOf (map toldBy l)) e) }
