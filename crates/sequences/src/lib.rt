@@ -6,7 +6,6 @@ use rules::Core;
 use rules::Fetch;
 use rules::Found;
 use rules::Kind;
-use rules::Ktcs;
 use rules::Wait;
 
 // The two SERVICE stores -----------------------------------------------------------------------------------------------
@@ -162,18 +161,7 @@ pub fn idle(w: Wait, fcn: u16) -> bool
 pub fn init_core(c: Core) -> Core
     ensures { λ r. ⌜ r ≡ initCore c ⌝ }
 {
-    let ktcs = Ktcs {
-        fcn: 0,
-        ss: false,
-        ds: false,
-        um: false,
-        iu: false,
-        rv: false,
-        pv: false,
-        wv: false,
-        av: false,
-        iv: false,
-    };
+    let ktcs = status::clear_ktcs();
     let kept = c.kept;
     let fetch = violations::clear_fetch();
     Core {

@@ -1,6 +1,7 @@
 // KTCS: its packing into 16 bits, its error flags, and what a store into it does (01, "Registers").
 ghost use mathlib.Core.Path.{_≡_};
 ghost use Prim.Native.Nat.{_+_, _%_, _≤_, _<_};
+ghost use Rattle.rules.specs.Unit.{clearKtcs};
 ghost use Rattle.rules.specs.Status.{bitOf, packed, unpacked, withModes, withStates, withFlags, flagsClear, fcnStored, ktcsStored};
 use rules::Ktcs;
 use rules::Part;
@@ -107,4 +108,22 @@ pub fn ktcs_stored(s: Ktcs, p: Part, v: u16) -> Ktcs
     let fcn = fcn_stored(s.fcn, p, v);
     let kept = with_modes(s, fcn, s.um, false);
     with_flags(kept, false, false, false, false, false)
+}
+
+// KTCS all zero, as INIT leaves it.
+pub fn clear_ktcs() -> Ktcs
+    ensures { λ r. ⌜ r ≡ clearKtcs ⌝ }
+{
+    Ktcs {
+        fcn: 0,
+        ss: false,
+        ds: false,
+        um: false,
+        iu: false,
+        rv: false,
+        pv: false,
+        wv: false,
+        av: false,
+        iv: false,
+    }
 }

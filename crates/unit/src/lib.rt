@@ -8,7 +8,6 @@ use rules::Cells;
 use rules::Core;
 use rules::Effect;
 use rules::KEPT;
-use rules::Ktcs;
 use rules::Maps;
 use rules::Outcome;
 use rules::Ran;
@@ -162,18 +161,7 @@ pub fn init(u: Unit) -> Reply
 fn zero() -> Unit
     ensures { λ r. ⌜ r ≡ zeroUnit cellCount ⌝ }
 {
-    let ktcs = Ktcs {
-        fcn: 0,
-        ss: false,
-        ds: false,
-        um: false,
-        iu: false,
-        rv: false,
-        pv: false,
-        wv: false,
-        av: false,
-        iv: false,
-    };
+    let ktcs = status::clear_ktcs();
     let core = Core {
         ktcs,
         kept: [0; KEPT],
