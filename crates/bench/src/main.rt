@@ -1,0 +1,106 @@
+// The bench program: reads lines from standard input to its end, and prints what each call of the unit answers.
+// The work is that of `benchwork`; here is only what no contract can speak of, reading and writing.
+use benchwork::Session;
+use libc::STDIN_FILENO;
+use libc::STDOUT_FILENO;
+use rowtext::Text;
+
+// What one read of the input leaves, and whether there is more to come.
+struct Turn {
+    session: Session,
+    next: Next,
+}
+
+enum Next {
+    More,
+    Ended,
+    Failed,
+}
+
+// Writes to standard output, and says on standard error if that fails.
+fn write(bytes: &[u8]) -> bool {
+    if io::write_all(STDOUT_FILENO, bytes) {
+        return true;
+    }
+    os::fail(b"bench: standard output cannot be written");
+    false
+}
+
+fn say(t: Text) -> bool {
+    let from = t.from;
+    let bytes = t.bytes;
+    if from < 64 {
+        return write(&bytes[from..]);
+    }
+    true
+}
+
+// The bytes of one read, one after the other, until a row cannot be written.
+fn feed(s: Session, m: &mut [u8], input: &[u8]) -> Turn {
+    let mut session = s;
+    let mut i = 0;
+    while i < input.len() {
+        let said = benchwork::step(session, m, input[i]);
+        session = said.session;
+        let text = said.text;
+        if !say(text) {
+            return Turn {
+                session,
+                next: Next::Failed,
+            };
+        }
+        i += 1;
+    }
+    Turn {
+        session,
+        next: Next::More,
+    }
+}
+
+// One read of the input, and what it asks for.
+fn turn(s: Session, m: &mut [u8]) -> Turn {
+    let mut buffer = io::large_buffer();
+    let got = libc::read(STDIN_FILENO, &mut buffer);
+    if got < 0 {
+        os::fail(b"bench: standard input cannot be read");
+        return Turn {
+            session: s,
+            next: Next::Failed,
+        };
+    }
+    let n = io::count(got, &buffer);
+    if n == 0 {
+        return Turn {
+            session: s,
+            next: Next::Ended,
+        };
+    }
+    feed(s, m, &buffer[..n])
+}
+
+// The count of turns only shows that the loop ends: no input is that long.
+fn run(m: &mut [u8]) {
+    let mut session = benchwork::start();
+    let mut turns = u64::MAX;
+    while 0 < turns {
+        let t = turn(session, m);
+        session = t.session;
+        let next = t.next;
+        match next {
+            Next::More => {}
+            Next::Ended => {
+                say(benchwork::end(session, m));
+                return;
+            }
+            Next::Failed => return,
+        }
+        turns -= 1;
+    }
+}
+
+fn main() {
+    let mut memory = [0u8; 65536];
+    if write(&rowtext::header()) {
+        run(&mut memory);
+    }
+}
