@@ -6,7 +6,7 @@ use libc::STDOUT_FILENO;
 use rowtext::Text;
 
 // What one read of the input leaves, and whether there is more to come.
-struct Turn {
+struct Took {
     session: Session,
     next: Next,
 }
@@ -36,7 +36,7 @@ fn say(t: Text) -> bool {
 }
 
 // The bytes of one read, one after the other, until a row cannot be written.
-fn feed(s: Session, m: &mut [u8], input: &[u8]) -> Turn {
+fn feed(s: Session, m: &mut [u8], input: &[u8]) -> Took {
     let mut session = s;
     let mut i = 0;
     while i < input.len() {
@@ -44,33 +44,33 @@ fn feed(s: Session, m: &mut [u8], input: &[u8]) -> Turn {
         session = said.session;
         let text = said.text;
         if !say(text) {
-            return Turn {
+            return Took {
                 session,
                 next: Next::Failed,
             };
         }
         i += 1;
     }
-    Turn {
+    Took {
         session,
         next: Next::More,
     }
 }
 
 // One read of the input, and what it asks for.
-fn turn(s: Session, m: &mut [u8]) -> Turn {
+fn turn(s: Session, m: &mut [u8]) -> Took {
     let mut buffer = io::large_buffer();
     let got = libc::read(STDIN_FILENO, &mut buffer);
     if got < 0 {
         os::fail(b"bench: standard input cannot be read");
-        return Turn {
+        return Took {
             session: s,
             next: Next::Failed,
         };
     }
     let n = io::count(got, &buffer);
     if n == 0 {
-        return Turn {
+        return Took {
             session: s,
             next: Next::Ended,
         };
