@@ -11,7 +11,7 @@ use Rattle.rules.specs.Choice.{pick}
 use Rattle.rules.specs.Memory.{Memory}
 use Rattle.linetext.specs.declared.gather.Gather.{Gather}
 use Rattle.linetext.specs.Cut.{onto}
-use Rattle.linetext.specs.Gather.{nothingYet, pushOf, pushAll, gathered, lineIn}
+use Rattle.linetext.specs.Gather.{nothingYet, pushOf, pushAll, gathered}
 use Rattle.linetext.specs.Line.{lineOf}
 use Rattle.linetext.specs.Pick as text
 use Rattle.linetext.proofs.Whole.{whole}

@@ -1,7 +1,6 @@
 -- `answers::shown` meets its contract.
 use Rattle.rules.specs.Answers.{shown, shownAs}
 use mathlib.Core.Path.{sym}
-use borrow.Author.Tests.{lt-ltb, le-ltb, lt-leb, le-leb, eq-eqb, ne-eqb}
 use borrow.Author.Needs.{needs}
 use Rattle.answers.proofs.shown.Statement.{statement}
 use Rattle.answers.proofs.shown.Tie as tie

@@ -1,7 +1,6 @@
 -- `benchwork::call_row` meets its contract.
 use mathlib.Core.Path.{_∙_}
 use Rattle.benchwork.specs.Bench.{callRow, shownRow}
-use Rattle.benchwork.specs.Bench.{callRow}
 use borrow.Author.Needs.{needs}
 use Rattle.benchwork.proofs.call_row.Statement.{statement}
 use Rattle.benchwork.proofs.call_row.Tie as tie

@@ -3,7 +3,6 @@ use mathlib.Core.Path.{sym, _∙_}
 use denote.Ref.{now}
 use Rattle.rules.proofs.Interrupts.{interrupt-leaves, trap-leaves, init-leaves}
 use Rattle.benchwork.specs.Bench.{callDone, lineDone}
-use Rattle.benchwork.specs.Bench.{lineDone}
 use borrow.Author.Needs.{needs}
 use Rattle.benchwork.proofs.line.Statement.{statement}
 use Rattle.benchwork.proofs.line.Tie as tie

@@ -1,6 +1,4 @@
 -- `benchwork::place_of` meets its contract.
-use mathlib.Core.Path.{sym}
-use borrow.Author.Tests.{lt-ltb, le-ltb, lt-leb, le-leb, eq-eqb, ne-eqb}
 use Rattle.benchwork.specs.Bench.{placeOf}
 use borrow.Author.Needs.{needs}
 use Rattle.benchwork.proofs.place_of.Statement.{statement}

@@ -3,7 +3,6 @@ use mathlib.Core.Path.{_∙_}
 use borrow.Author.Tests.{eq-eqb, ne-eqb}
 use Rattle.benchwork.specs.Bytes.{stepped, lineEnded, byteAdded}
 use Rattle.rules.specs.Choice.{pick}
-use Rattle.benchwork.specs.Bytes.{stepped}
 use borrow.Author.Needs.{needs}
 use Rattle.benchwork.proofs.step.Statement.{statement}
 use Rattle.benchwork.proofs.step.Tie as tie

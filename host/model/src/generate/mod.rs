@@ -4,6 +4,7 @@ mod actions;
 mod directed;
 mod kinds;
 mod lines;
+mod noise;
 mod plan;
 mod random;
 mod scripts;
@@ -12,6 +13,7 @@ mod watch;
 
 use crate::bench::{parse, Line, Machine};
 use crate::state::Wait;
+pub use noise::Noise;
 use plan::Plan;
 use random::Random;
 pub use stats::Stats;
