@@ -1,13 +1,14 @@
 -- Runs of calls whose answers are worked out by hand from document 01, and computed from the definitions.
 use Prim.Native.Nat.{ℕ}
 use mathlib.Core.Path.{_≡_, refl}
-use mathlib.Core.List.{List, [], _∷_, map}
+use mathlib.Core.List.{List, [], _∷_, _++_, map}
 use lib.ListN.{replicate}
 use Rattle.rules.specs.Types.{Access, Call, Physical}
 use Rattle.rules.specs.Memory.{Memory, storeWord}
 use Rattle.rules.specs.Status.{packed}
 use Rattle.rules.specs.Answers.{shown}
 use Rattle.rules.specs.Calls.{fresh}
+use Rattle.rules.specs.Maps.{tagIn}
 use Rattle.rules.specs.Runs.{Seen, Station, seenAlong, stationAfter}
 use Rattle.rules.proofs.Opened.{opened}
 
@@ -91,3 +92,22 @@ pub a-window-faults-within :
     ∷ off 0 0 0o004016 ∷ at 0 0o001000 0o777610 0o004016 ∷ []
 unfolding opened
 a-window-faults-within = refl
+
+-- the tags of the cells after a run of calls on a fresh unit
+abbrev pub tagsAfter : List Call → List ℕ
+tagsAfter cs = map tagIn (stationAfter smallMemory fresh cs .unit .cells .list)
+
+-- KTEM 000001, FCN 2, and KTIC read through the exec's last page, 177o, which fills the first cell
+abbrev pub oneCell : List Call
+oneCell = A 2 1 0 0o177616 0o000001 ∷ A 2 1 0 0o177576 2 ∷ A 0 1 0 0o177600 0 ∷ []
+
+-- "A store into KTUM or KTEM, byte or word, empties all cells", and so does a violation the cell of its page, which the walk had just filled.
+pub record Emptied : Type 0 where
+  pub filled : tagsAfter oneCell ≡ 0o177 ∷ replicate 7 0
+  pub by-ktum : tagsAfter (oneCell ++ (A 3 1 1 0o177614 0o000002 ∷ [])) ≡ replicate 8 0
+  pub by-ktem : tagsAfter (oneCell ++ (A 2 1 0 0o177616 0o000002 ∷ [])) ≡ replicate 8 0
+  pub by-violation : tagsAfter (startUser ++ (A 0 1 0 0o001000 0 ∷ [])) ≡ replicate 8 0
+
+pub emptied-cells : Emptied
+unfolding opened
+emptied-cells = record { filled = refl; by-ktum = refl; by-ktem = refl; by-violation = refl }
