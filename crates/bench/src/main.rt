@@ -1,13 +1,13 @@
 // The bench program: reads lines from standard input to its end, and prints what each call of the unit answers.
 // The work is that of `benchwork`; here is only what no contract can speak of, reading and writing.
-use benchwork::Session;
+use benchwork::Progress;
 use libc::STDIN_FILENO;
 use libc::STDOUT_FILENO;
 use rowtext::Text;
 
 // What one read of the input leaves, and whether there is more to come.
 struct Took {
-    session: Session,
+    progress: Progress,
     next: Next,
 }
 
@@ -36,42 +36,42 @@ fn say(t: Text) -> bool {
 }
 
 // The bytes of one read, one after the other, until a row cannot be written.
-fn feed(s: Session, m: &mut [u8], input: &[u8]) -> Took {
-    let mut session = s;
+fn feed(s: Progress, m: &mut [u8], input: &[u8]) -> Took {
+    let mut progress = s;
     let mut i = 0;
     while i < input.len() {
-        let said = benchwork::step(session, m, input[i]);
-        session = said.session;
+        let said = benchwork::step(progress, m, input[i]);
+        progress = said.progress;
         let text = said.text;
         if !say(text) {
             return Took {
-                session,
+                progress,
                 next: Next::Failed,
             };
         }
         i += 1;
     }
     Took {
-        session,
+        progress,
         next: Next::More,
     }
 }
 
 // One read of the input, and what it asks for.
-fn turn(s: Session, m: &mut [u8]) -> Took {
+fn turn(s: Progress, m: &mut [u8]) -> Took {
     let mut buffer = io::large_buffer();
     let got = libc::read(STDIN_FILENO, &mut buffer);
     if got < 0 {
         os::fail(b"bench: standard input cannot be read");
         return Took {
-            session: s,
+            progress: s,
             next: Next::Failed,
         };
     }
     let n = io::count(got, &buffer);
     if n == 0 {
         return Took {
-            session: s,
+            progress: s,
             next: Next::Ended,
         };
     }
@@ -80,16 +80,16 @@ fn turn(s: Session, m: &mut [u8]) -> Took {
 
 // The count of turns only shows that the loop ends: no input is that long.
 fn run(m: &mut [u8]) {
-    let mut session = benchwork::start();
+    let mut progress = benchwork::start();
     let mut turns = u64::MAX;
     while 0 < turns {
-        let t = turn(session, m);
-        session = t.session;
+        let t = turn(progress, m);
+        progress = t.progress;
         let next = t.next;
         match next {
             Next::More => {}
             Next::Ended => {
-                say(benchwork::end(session, m));
+                say(benchwork::end(progress, m));
                 return;
             }
             Next::Failed => return,

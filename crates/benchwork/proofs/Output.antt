@@ -17,10 +17,10 @@ use Rattle.linetext.specs.Pick as text
 use Rattle.linetext.proofs.Whole.{whole}
 use Rattle.rowtext.specs.Row.{headerOf}
 use Rattle.benchwork.specs.declared.Bench.{Bench}
-use Rattle.benchwork.specs.declared.Session.{Session}
+use Rattle.benchwork.specs.declared.Progress.{Progress}
 use Rattle.benchwork.specs.Bench.{Done, lineDone}
 use Rattle.benchwork.specs.Whole.{linesOf, printed, benchMemory, freshBench, outputOf}
-use Rattle.benchwork.specs.Bytes.{Stepped, freshSession, lineEnded, byteAdded, stepped, ended, printedFrom}
+use Rattle.benchwork.specs.Bytes.{Stepped, freshProgress, lineEnded, byteAdded, stepped, ended, printedFrom}
 
 -- A gather that was pushed into ------------------------------------------------------------------------------------------
 
@@ -89,7 +89,7 @@ last-line m b x p =
 
 module _ (m : Memory) (b : Bench) (p : List ℕ) (x : ℕ) where
   -- the bench, with the bytes p of a line gathered
-  amid : Session
+  amid : Progress
   amid = record { bench = b; gather = gathered p }
 
   line-step : eqb x 10 ≡ true → stepped m amid x ≡ lineEnded (lineDone m b (lineOf p))
@@ -110,7 +110,7 @@ from-bytes [] m b (x ∷ p) = last-line m b x p ∙ ap (printed m b) (sym (end-e
 from-bytes (x ∷ s) m b p = by (λ m b p. from-bytes s m b p) (eqb x 10) refl
   where
     after : Stepped → List ℕ
-    after t = t .prints ++ printedFrom (t .memory) (t .session) s
+    after t = t .prints ++ printedFrom (t .memory) (t .progress) s
 
     done : Done
     done = lineDone m b (lineOf p)
@@ -130,6 +130,6 @@ from-bytes (x ∷ s) m b p = by (λ m b p. from-bytes s m b p) (eqb x 10) refl
         ∙ ap (printed m b) (sym (other-joins p x s e))
 
 -- whatever the input
-pub whole-output : (input : List ℕ) → headerOf ++ printedFrom benchMemory freshSession input ≡ outputOf input
-unfolding outputOf freshSession gathered pushAll linesFrom
+pub whole-output : (input : List ℕ) → headerOf ++ printedFrom benchMemory freshProgress input ≡ outputOf input
+unfolding outputOf freshProgress gathered pushAll linesFrom
 whole-output input = ap (λ (s : List ℕ). headerOf ++ s) (from-bytes input benchMemory freshBench [])

@@ -5,33 +5,33 @@ use lib.Dec.{eqb}
 use Rattle.rules.specs.Choice.{pick}
 use Rattle.rules.specs.Memory.{Memory}
 use Rattle.linetext.specs.Gather.{nothingYet, pushOf, lineIn}
-use Rattle.benchwork.specs.declared.Session.{Session}
+use Rattle.benchwork.specs.declared.Progress.{Progress}
 use Rattle.benchwork.specs.Bench.{Done, lineDone}
 use Rattle.benchwork.specs.Whole.{freshBench}
 
 -- what a byte leaves, and what it prints
 pub record Stepped : Type 0 where
-  pub session : Session
+  pub progress : Progress
   pub memory : Memory
   pub prints : List ℕ
 
-unfoldable pub freshSession : Session
-freshSession = record { bench = freshBench; gather = nothingYet }
+unfoldable pub freshProgress : Progress
+freshProgress = record { bench = freshBench; gather = nothingYet }
 
 -- the line is done, and the next one starts
 unfoldable pub lineEnded : Done → Stepped
-lineEnded d = record { session = record { bench = d .bench; gather = nothingYet }; memory = d .memory; prints = d .prints }
+lineEnded d = record { progress = record { bench = d .bench; gather = nothingYet }; memory = d .memory; prints = d .prints }
 
-unfoldable pub byteAdded : Memory → Session → ℕ → Stepped
-byteAdded m s x = record { session = record { bench = s .bench; gather = pushOf (s .gather) x }; memory = m; prints = [] }
+unfoldable pub byteAdded : Memory → Progress → ℕ → Stepped
+byteAdded m s x = record { progress = record { bench = s .bench; gather = pushOf (s .gather) x }; memory = m; prints = [] }
 
-unfoldable pub stepped : Memory → Session → ℕ → Stepped
+unfoldable pub stepped : Memory → Progress → ℕ → Stepped
 stepped m s x = pick (eqb x 10) (lineEnded (lineDone m (s .bench) (lineIn (s .gather)))) (byteAdded m s x)
 
 -- what the end of the input prints: the last line's row, if bytes of it are there
-unfoldable pub ended : Memory → Session → List ℕ
+unfoldable pub ended : Memory → Progress → List ℕ
 ended m s = pick (eqb (s .gather .len) 0) [] (lineDone m (s .bench) (lineIn (s .gather)) .prints)
 
-unfoldable pub printedFrom : Memory → Session → List ℕ → List ℕ
+unfoldable pub printedFrom : Memory → Progress → List ℕ → List ℕ
 printedFrom m s [] = ended m s
-printedFrom m s (x ∷ xs) = stepped m s x .prints ++ printedFrom (stepped m s x .memory) (stepped m s x .session) xs
+printedFrom m s (x ∷ xs) = stepped m s x .prints ++ printedFrom (stepped m s x .memory) (stepped m s x .progress) xs

@@ -14,7 +14,7 @@ ghost use mathlib.Core.Path.{_≡_};
 ghost use mathlib.Core.List.{[]};
 ghost use Rattle.rules.specs.Calls.{callOf};
 ghost use Rattle.benchwork.specs.Bench.{Holds, next, placeOf, callRow, lineCounted, callCounted, accessIn, lineDone};
-ghost use Rattle.benchwork.specs.Bytes.{freshSession, stepped, ended};
+ghost use Rattle.benchwork.specs.Bytes.{freshProgress, stepped, ended};
 
 // The unit, and how many calls and lines there were so far.
 pub struct Bench {
@@ -30,14 +30,14 @@ pub struct Told {
 }
 
 // The bench amid its input: the bytes of a line are gathered until the line ends.
-pub struct Session {
+pub struct Progress {
     pub bench: Bench,
     pub gather: Gather,
 }
 
 // What a byte leaves, and what it prints.
 pub struct Said {
-    pub session: Session,
+    pub progress: Progress,
     pub text: Text,
 }
 
@@ -145,23 +145,23 @@ pub fn line(b: Bench, m: &mut [u8], asks: Line) -> Told
 }
 
 // The bench before its first byte.
-pub fn start() -> Session
-    ensures { λ r. ⌜ r ≡ freshSession ⌝ }
+pub fn start() -> Progress
+    ensures { λ r. ⌜ r ≡ freshProgress ⌝ }
 {
     let bench = Bench {
         unit: unit::fresh(),
         calls: 0,
         lines: 0,
     };
-    Session {
+    Progress {
         bench,
         gather: gather::nothing(),
     }
 }
 
 // One byte of the input. A newline ends a line, and the line is done.
-pub fn step(s: Session, m: &mut [u8], byte: u8) -> Said
-    ensures session { λ r. ⌜ r .session ≡ stepped (now (m .entry)) s byte .session ⌝ }
+pub fn step(s: Progress, m: &mut [u8], byte: u8) -> Said
+    ensures progress { λ r. ⌜ r .progress ≡ stepped (now (m .entry)) s byte .progress ⌝ }
     ensures memory { λ r. ⌜ now (m .exit) ≡ stepped (now (m .entry)) s byte .memory ⌝ }
     ensures text { λ r. ⌜ Holds (r .text) (stepped (now (m .entry)) s byte .prints) ⌝ }
 {
@@ -171,24 +171,24 @@ pub fn step(s: Session, m: &mut [u8], byte: u8) -> Said
         let told = line(bench, m, gather::line_in(held));
         let after = told.bench;
         let text = told.text;
-        let session = Session {
+        let progress = Progress {
             bench: after,
             gather: gather::nothing(),
         };
-        return Said { session, text };
+        return Said { progress, text };
     }
-    let session = Session {
+    let progress = Progress {
         bench,
         gather: gather::push(held, byte),
     };
     Said {
-        session,
+        progress,
         text: nothing_said(),
     }
 }
 
 // The end of the input: "a last line without a newline is a line", if it has a byte.
-pub fn end(s: Session, m: &mut [u8]) -> Text
+pub fn end(s: Progress, m: &mut [u8]) -> Text
     ensures { λ r. ⌜ Holds r (ended (now (m .entry)) s) ⌝ }
 {
     let bench = s.bench;

@@ -7,10 +7,10 @@ use Rattle.bench.proofs.feed.Statement.{statement}
 use Rattle.bench.proofs.feed.Tie as tie
 
 abbrev Inv-loop : tie.InvT-loop
-Inv-loop m₀ input session₀ i₀ m session i = (i ≤ length input) × (length m ≡ length m₀)
+Inv-loop m₀ input progress₀ i₀ m progress i = (i ≤ length input) × (length m ≡ length m₀)
 
 abbrev μ-loop : tie.MeasureT-loop
-μ-loop m₀ input session₀ i₀ m session i = length input - i
+μ-loop m₀ input progress₀ i₀ m progress i = length input - i
 
 loop-holds : tie.Need-loop-holds Inv-loop μ-loop
 loop-holds c = search needs

@@ -6,10 +6,10 @@ use Rattle.bench.proofs.run.Statement.{statement}
 use Rattle.bench.proofs.run.Tie as tie
 
 abbrev Inv-loop : tie.InvT-loop
-Inv-loop m₀ session₀ turns₀ m session turns = length m ≡ length m₀
+Inv-loop m₀ progress₀ turns₀ m progress turns = length m ≡ length m₀
 
 abbrev μ-loop : tie.MeasureT-loop
-μ-loop m₀ session₀ turns₀ m session turns = turns
+μ-loop m₀ progress₀ turns₀ m progress turns = turns
 
 start-requires : tie.Need-start-requires Inv-loop μ-loop
 start-requires c κs = search needs

@@ -1,7 +1,7 @@
 -- `benchwork::start` meets its contract.
 use mathlib.Core.Path.{sym}
 use Rattle.benchwork.specs.Whole.{freshBench}
-use Rattle.benchwork.specs.Bytes.{freshSession}
+use Rattle.benchwork.specs.Bytes.{freshProgress}
 use borrow.Author.Needs.{needs}
 use Rattle.benchwork.proofs.start.Statement.{statement}
 use Rattle.benchwork.proofs.start.Tie as tie
@@ -13,7 +13,7 @@ nothing-requires : tie.Need-nothing-requires
 nothing-requires c κs = search needs
 
 returns : tie.Need-returns
-unfolding freshSession freshBench
+unfolding freshProgress freshBench
 returns c = simp (sym (c .nothing .ensures), sym (c .before .fresh .ensures))
 
 pub start-spec : {M : Type 1} → statement M
