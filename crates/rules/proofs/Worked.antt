@@ -11,6 +11,7 @@ use Rattle.rules.specs.Calls.{fresh}
 use Rattle.rules.specs.Maps.{tagIn}
 use Rattle.rules.specs.Runs.{Seen, Station, seenAlong, stationAfter}
 use Rattle.rules.proofs.Opened.{opened}
+use Rattle.rules.proofs.Starred.{numberAt}
 
 -- what the bench program prints of a call: the answer's number, its data and physical address, and KTCS after it
 pub record Row : Type 0 where
@@ -47,6 +48,11 @@ pub listing :
     ≡ at 0 0 0o777616 0o000000 ∷ at 0 0 0o777576 0o000002 ∷ at 0 0o000123 0o002004 0o000012 ∷ off 4 0 0o040012 ∷ []
 unfolding opened
 listing = refl
+
+-- "L=65,536 unpaged: the last word below 160000o is fine. L=4: 2 is fine"
+pub fine-at-the-end : (numberAt (replicate 65536 0) 0o157776 ≡ 0) × (numberAt (replicate 4 0) 2 ≡ 0)
+unfolding opened
+fine-at-the-end = (refl, refl)
 
 -- Eight pages of memory. The exec's map is page 1, all simple, and its last page is the registers' (777o); the user's map is page 2, all
 -- simple: page 0 is physical page 3, resident, public and write-enabled, and page 1 is not resident.
