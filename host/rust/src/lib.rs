@@ -1,0 +1,48 @@
+//! The KT11-B paging unit of the PDP-11/20, for emulators.
+//!
+//! The unit stands between the processor and the bus: the host gives it every access of its processor, and it answers with
+//! the word read and the physical address, or with the violation that stopped the access. The processor, its priority and T
+//! bit, and all other devices are the host's. Every number in the rules is octal, and so are the addresses below.
+//!
+//! This crate wraps the static library `libkt11b.a`, whose functions are proved to meet the unit's rules for every input. It
+//! has no dependencies, and no `unsafe` in its interface.
+//!
+//! # A first access
+//!
+//! Exec page 1 is mapped to physical page 2, paging is switched on, and the word at 001004 is read:
+//!
+//! ```
+//! use kt11b::{Answer, Operation, State, Unit, Width};
+//!
+//! let mut memory = vec![0u8; 65_536];
+//! // Exec page 1's map word: resident, public, write-enabled, physical page 2. Low byte first.
+//! memory[0o001402..0o001404].copy_from_slice(&0o160002u16.to_le_bytes());
+//! memory[0o002004..0o002006].copy_from_slice(&0o000123u16.to_le_bytes());
+//!
+//! let mut unit = Unit::fresh();
+//! let (dati, dato) = (Operation::Dati, Operation::Dato);
+//! let at = State::Destination;
+//! // KTEM: the exec's map is in physical page 1. KTCS: FCN 2, normal paging.
+//! unit.access(&mut memory, dato, at, Width::Word, 0o177616, 0o177001);
+//! unit.access(&mut memory, dato, at, Width::Word, 0o177576, 0o000002);
+//!
+//! let reply = unit.access(&mut memory, dati, at, Width::Word, 0o001004, 0);
+//! assert_eq!(reply.answer(), Answer::Done);
+//! assert_eq!(reply.data(), 0o000123);
+//! assert_eq!(reply.physical(), Some(0o002004));
+//!
+//! let odd = unit.access(&mut memory, dati, at, Width::Word, 0o001005, 0);
+//! assert_eq!(odd.answer(), Answer::AddressViolation);
+//! assert_eq!(odd.physical(), None);
+//! ```
+
+#![deny(missing_docs)]
+
+mod library;
+mod numbers;
+mod reply;
+mod unit;
+
+pub use numbers::{Answer, Operation, Register, State, Vector, Wait, Width};
+pub use reply::Reply;
+pub use unit::{map_page, Unit, CELLS, LONGEST_MEMORY, UNIT_WORDS};

@@ -1,0 +1,86 @@
+//! The reading functions for a front panel or a debugger: what they show, and that they change nothing.
+
+mod common;
+
+use common::Rig;
+use kt11b::{Answer, Register, Unit, Wait, CELLS};
+
+#[test]
+fn a_fresh_unit() {
+    let unit = Unit::fresh();
+    for register in Register::ALL {
+        let expected = if register == Register::Ktmr { 0o004000 } else { 0 };
+        assert_eq!(unit.register(register), Some(expected), "{register:?}");
+    }
+    for cell in 0..CELLS {
+        assert_eq!((unit.cell_tag(cell), unit.cell_word(cell)), (Some(0), Some(0)));
+    }
+    assert_eq!(unit.counter(), Some(0o10));
+    assert_eq!(unit.wait(), Some(Wait::Nothing));
+}
+
+/// The reading function and an unpaged DATI of the register's address show the same word.
+#[test]
+fn registers_as_the_bus_shows_them() {
+    let mut rig = Rig::new();
+    for register in Register::ALL {
+        let address = 0o177572 + 2 * register as u16;
+        if register != Register::Ktcs {
+            rig.write(address, 0o010203 + register as u16);
+        }
+    }
+    for register in Register::ALL {
+        let read = rig.read(0o177572 + 2 * register as u16);
+        assert_eq!(rig.unit.register(register), Some(read.data()), "{register:?}");
+    }
+    assert_eq!(rig.unit.register(Register::Ktem), Some(0o010215));
+}
+
+/// "Tag: 128 for user plus p"; "fills the cell the counter names, then the counter steps 10o to 17o and round".
+#[test]
+fn cells_and_counter() {
+    let mut rig = Rig::user();
+    rig.read(0o001000);
+    assert_eq!(rig.unit.cell_tag(0), Some(0o201));
+    assert_eq!(rig.unit.cell_word(0), Some(0o120020));
+    assert_eq!(rig.unit.counter(), Some(0o11));
+    rig.read(0o003000);
+    assert_eq!(rig.unit.cell_tag(1), Some(0o203));
+    assert_eq!(rig.unit.cell_word(1), Some(0o100021));
+    assert_eq!(rig.unit.register(Register::Ktmr), Some(0o005000));
+}
+
+#[test]
+fn numbers_outside_their_lists() {
+    let unit = Unit::fresh();
+    for number in [0, 11, 12, 300, 1 << 32, u64::MAX] {
+        assert_eq!(unit.register_numbered(number).answer(), Answer::Misshapen, "{number}");
+    }
+    for index in [8, 9, 24, 300, 1 << 32, u64::MAX] {
+        assert_eq!(unit.cell_tag_numbered(index).answer(), Answer::Misshapen);
+        assert_eq!(unit.cell_word_numbered(index).answer(), Answer::Misshapen);
+    }
+    assert_eq!((unit.cell_tag(CELLS), unit.cell_word(CELLS)), (None, None));
+}
+
+#[test]
+fn reading_changes_nothing() {
+    let mut rig = Rig::user();
+    rig.read(0o001000);
+    rig.unchanged(|rig| {
+        for number in 0..300 {
+            rig.unit.register_numbered(number);
+            rig.unit.cell_tag_numbered(number);
+            rig.unit.cell_word_numbered(number);
+        }
+        (rig.unit.counter(), rig.unit.wait())
+    });
+}
+
+#[test]
+fn shown_for_debugging() {
+    let shown = format!("{:?}", Rig::user().unit);
+    assert!(shown.contains("Ktum: 020005"), "{shown}");
+    let shown = format!("{:?}", Unit::from_words([0; kt11b::UNIT_WORDS]));
+    assert!(shown.contains("no unit"), "{shown}");
+}
