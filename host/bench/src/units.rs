@@ -1,0 +1,83 @@
+//! The units that are timed, each behind the same few functions.
+
+use crate::stream::{Access, KTUM};
+use std::hint::black_box;
+
+/// What is compared of a reply.
+#[derive(Clone, Copy, PartialEq, Eq, Debug)]
+pub struct Seen {
+    pub answer: u8,
+    pub data: u16,
+}
+
+pub trait Paging {
+    fn access(&mut self, memory: &mut [u8], access: Access) -> Seen;
+
+    /// Starts the user: KTUM, FCN 3, and the two START reads.
+    fn start(&mut self, memory: &mut [u8]) {
+        let store = |address, data| Access { operation: 2, state: 3, width: 0, address, data };
+        let read = Access { operation: 0, state: 3, width: 0, address: 0, data: 0 };
+        for access in [store(0o177614, KTUM), store(0o177576, 3), read, read] {
+            self.access(memory, access);
+        }
+    }
+}
+
+/// (a) The static library, called as C would call it.
+pub struct Library(pub kt11b::Unit);
+
+impl Paging for Library {
+    #[inline]
+    fn access(&mut self, memory: &mut [u8], access: Access) -> Seen {
+        let Access { operation, state, width, address, data } = access;
+        let kind = [u64::from(operation), u64::from(state), u64::from(width)];
+        let reply = self.0.access_numbered(memory, kind, address, data);
+        Seen { answer: reply.answer_number(), data: reply.data() }
+    }
+}
+
+/// (b) and (c) The plain model, with its cells or without.
+pub struct Model(pub kt11b_model::Unit);
+
+impl Paging for Model {
+    #[inline]
+    fn access(&mut self, memory: &mut [u8], access: Access) -> Seen {
+        let Access { operation, state, width, address, data } = access;
+        let [operation, state, width] = [operation, state, width].map(u64::from);
+        let reply = self.0.access(memory, operation, state, width, address, data);
+        Seen { answer: reply.answer, data: reply.data }
+    }
+}
+
+/// Nothing: what the loop around an access costs.
+pub struct Nothing;
+
+impl Paging for Nothing {
+    #[inline]
+    fn access(&mut self, _memory: &mut [u8], access: Access) -> Seen {
+        Seen { answer: 0, data: black_box(access).address }
+    }
+}
+
+/// A run's answers other than 0, and the sum of the data.
+#[derive(Clone, Copy, PartialEq, Eq, Debug, Default)]
+pub struct Total {
+    pub refused: u64,
+    pub data: u64,
+}
+
+/// Gives the unit so many accesses of the stream, from its beginning.
+pub fn run(unit: &mut impl Paging, memory: &mut [u8], stream: &[Access], accesses: usize) -> Total {
+    let mut total = Total::default();
+    let mut left = accesses;
+    while left > 0 {
+        let now = left.min(stream.len());
+        for &access in &stream[..now] {
+            let seen = unit.access(memory, access);
+            total.refused += u64::from(seen.answer != 0);
+            total.data = total.data.wrapping_add(u64::from(seen.data));
+        }
+        left -= now;
+    }
+    total
+}

@@ -1,0 +1,9 @@
+//! The proved unit's static library beside the plain model: the same calls to both, and everything that can be seen compared.
+
+mod pair;
+mod random;
+mod steering;
+
+pub use pair::Pair;
+pub use random::Random;
+pub use steering::{Lengths, Steering};
