@@ -90,7 +90,7 @@ impl Steering {
 
     /// Seldom, the same numbers with bits above 32 set: they are other numbers.
     fn widened(&mut self, call: Call) -> Call {
-        if !self.random.one_in(200) {
+        if self.lengths == Lengths::Bench || !self.random.one_in(200) {
             return call;
         }
         let above = (self.random.number() | 1) << (32 + self.random.below(16));
