@@ -11,14 +11,17 @@ use std::time::Instant;
 use stream::Access;
 use units::{run, Library, Model, Nothing, Paging, Total};
 
-/// Rounds, of which the quickest counts: whatever else the machine does can only make a round slower.
-const ROUNDS: usize = 5;
+/// The accesses are made in so many rounds, the units taking turns. The quickest round counts: whatever else the machine does
+/// can only make a round slower.
+const ROUNDS: usize = 20;
 
 /// A unit started in its own memory.
 struct Timed<P> {
     unit: P,
     memory: Vec<u8>,
+    /// Nanoseconds per access in the quickest round, and in all rounds together.
     best: f64,
+    sum: f64,
     total: Total,
 }
 
@@ -26,20 +29,22 @@ impl<P: Paging> Timed<P> {
     fn new(mut unit: P) -> Timed<P> {
         let mut memory = stream::memory();
         unit.start(&mut memory);
-        Timed { unit, memory, best: f64::INFINITY, total: Total::default() }
+        Timed { unit, memory, best: f64::INFINITY, sum: 0.0, total: Total::default() }
     }
 
-    /// One round; the quickest one's nanoseconds per access are kept.
+    /// One round.
     fn round(&mut self, stream: &[Access], accesses: usize) {
         let begun = Instant::now();
         self.total = run(&mut self.unit, &mut self.memory, stream, accesses);
         let spent = begun.elapsed().as_secs_f64() * 1e9 / accesses as f64;
         self.best = self.best.min(spent);
+        self.sum += spent;
     }
 
     fn show(&self, name: &str, base: f64) {
-        let (time, rate, ratio) = (self.best, 1e3 / self.best, self.best / base);
-        println!("{name:<38} {time:>8.2} {rate:>12.1} {ratio:>10.2}");
+        let mean = self.sum / ROUNDS as f64;
+        let (best, rate, ratio) = (self.best, 1e3 / self.best, self.best / base);
+        println!("{name:<36} {best:>8.2} {mean:>8.2} {rate:>10.1} {ratio:>9.2}");
     }
 }
 
@@ -85,12 +90,12 @@ fn time_all(accesses: usize) -> ExitCode {
     let mut walk = Timed::new(Model(kt11b_model::Unit::fresh_without_cells()));
     let mut nothing = Timed::new(Nothing);
     for _ in 0..ROUNDS {
-        library.round(&stream, accesses);
-        model.round(&stream, accesses);
-        walk.round(&stream, accesses);
-        nothing.round(&stream, accesses);
+        library.round(&stream, accesses / ROUNDS);
+        model.round(&stream, accesses / ROUNDS);
+        walk.round(&stream, accesses / ROUNDS);
+        nothing.round(&stream, accesses / ROUNDS);
     }
-    println!("{:<38} {:>8} {:>12} {:>10}", "", "ns each", "million/s", "time/(b)");
+    println!("{:<36} {:>8} {:>8} {:>10} {:>9}", "", "ns best", "ns mean", "million/s", "time/(b)");
     library.show("(a) library through the C boundary", model.best);
     model.show("(b) plain model, in place", model.best);
     walk.show("(c) plain model, the walk alone", model.best);
@@ -125,7 +130,7 @@ fn describe(stream: &[Access], accesses: usize) {
         walks += usize::from(model.0.counter() != before);
     }
     println!(
-        "{accesses} accesses a round, {ROUNDS} rounds, the quickest counts: {:.0}% fetch, {:.0}% read, {:.0}% store; {:.1}% walk.",
+        "{accesses} accesses in {ROUNDS} rounds: {:.0}% fetch, {:.0}% read, {:.0}% store; {:.1}% walk.",
         share(|access| access.state == 0),
         share(|access| access.state != 0 && access.operation <= 1),
         share(|access| access.operation >= 2),
