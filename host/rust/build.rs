@@ -1,7 +1,7 @@
 //! Finds libkt11b.a and has it linked.
 
 use std::env;
-use std::path::PathBuf;
+use std::path::{self, PathBuf};
 use std::process::exit;
 
 const LIBRARY: &str = "libkt11b.a";
@@ -10,6 +10,8 @@ fn main() {
     println!("cargo:rerun-if-env-changed=KT11B_LIB_DIR");
     println!("cargo:rerun-if-changed=build.rs");
     let folder = library_folder();
+    // A relative path is taken from this crate's folder; the whole path shows that to whoever gave another.
+    let folder = path::absolute(&folder).unwrap_or(folder);
     let library = folder.join(LIBRARY);
     // Watched even while it is not there, so that building it later is noticed.
     println!("cargo:rerun-if-changed={}", library.display());
