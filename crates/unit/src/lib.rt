@@ -80,7 +80,8 @@ fn cells_after(e: Effect, k: Cells) -> Cells
     }
 }
 
-fn store(m: &mut [u8], e: Effect)
+// What an effect does to memory.
+pub fn store(m: &mut [u8], e: Effect)
     ensures { λ o. ⌜ now (m .exit) ≡ memoryAfter e (now (m .entry)) ⌝ }
 {
     match e {

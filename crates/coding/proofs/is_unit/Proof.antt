@@ -1,0 +1,48 @@
+-- `coding::is_unit` meets its contract.
+use mathlib.Core.Path.{refl}
+use Rattle.coding.specs.Coding.{isUnit}
+use borrow.Author.Needs.{needs}
+use Rattle.coding.proofs.is_unit.Statement.{statement}
+use Rattle.coding.proofs.is_unit.Tie as tie
+
+array-read-result : tie.Need-array-read-result
+array-read-result c = search needs
+
+array-read-result-2 : tie.Need-array-read-result-2
+array-read-result-2 c = search needs
+
+array-read-result-3 : tie.Need-array-read-result-3
+array-read-result-3 c = search needs
+
+array-read-result-4 : tie.Need-array-read-result-4
+array-read-result-4 c = search needs
+
+array-read-result-5 : tie.Need-array-read-result-5
+array-read-result-5 c = search needs
+
+array-read-result-6 : tie.Need-array-read-result-6
+array-read-result-6 c = search needs
+
+array-read-result-7 : tie.Need-array-read-result-7
+array-read-result-7 c = search needs
+
+array-read-result-8 : tie.Need-array-read-result-8
+array-read-result-8 c = search needs
+
+returns : tie.Need-returns
+unfolding isUnit
+returns c = refl
+
+pub is-unit-spec : {M : Type 1} → statement M
+is-unit-spec =
+    tie.close
+    (tie.spec
+    array-read-result
+    array-read-result-2
+    array-read-result-3
+    array-read-result-4
+    array-read-result-5
+    array-read-result-6
+    array-read-result-7
+    array-read-result-8
+    returns)

@@ -1,0 +1,2 @@
+-- What the proofs of the calls share.
+pub mod Calls

@@ -1,0 +1,47 @@
+-- `kt11b::kt11b_interrupt` meets its contract.
+use mathlib.Core.Path.{sym, _∙_}
+use Rattle.kt11b.proofs.Calls.{unit-words, unit-reply, stay-words, stay-reply}
+use borrow.Author.Needs.{needs}
+use Rattle.kt11b.proofs.kt11b_interrupt.Statement.{statement}
+use Rattle.kt11b.proofs.kt11b_interrupt.Tie as tie
+
+is-unit-requires : tie.Need-is-unit-requires
+is-unit-requires c κs = search needs
+
+decoded-requires : tie.Need-decoded-requires
+decoded-requires c κs = search needs
+
+interrupt-requires : tie.Need-interrupt-requires
+interrupt-requires c κs = search needs
+
+coded-requires : tie.Need-coded-requires
+coded-requires c κs = search needs
+
+replied-requires : tie.Need-replied-requires
+replied-requires c κs = search needs
+
+returns : tie.Need-returns
+returns c = (
+  λ m. unit-words m _ _ _ _ (sym (c .before .before .before .before .before .before .is-unit .ensures) ∙ c .before .before .before .before .before .if1 .taken) (c .before .before .before .before .decoded .ensures) (c .before .before .before .interrupt .ensures m) _ (c .before .coded .ensures),
+  λ m. unit-reply m _ _ _ _ (sym (c .before .before .before .before .before .before .is-unit .ensures) ∙ c .before .before .before .before .before .if1 .taken) (c .before .before .before .before .decoded .ensures) (c .before .before .before .interrupt .ensures m) _ (c .replied .ensures),
+)
+
+no-unit-requires : tie.Need-no-unit-requires
+no-unit-requires c κs = search needs
+
+returns-2 : tie.Need-returns-2
+returns-2 c =
+    (λ m. stay-words m _ _ (sym (c .before .before .is-unit .ensures) ∙ c .before .if1 .left), λ m. stay-reply m _ _ _ (sym (c .before .before .is-unit .ensures) ∙ c .before .if1 .left) (c .no-unit .ensures))
+
+pub kt11b-interrupt-spec : {M : Type 1} → statement M
+kt11b-interrupt-spec =
+    tie.close
+    (tie.spec
+    is-unit-requires
+    decoded-requires
+    interrupt-requires
+    coded-requires
+    replied-requires
+    returns
+    no-unit-requires
+    returns-2)

@@ -1,0 +1,2 @@
+-- What the library's calls do, over the words that a host owns.
+pub mod Doors

@@ -1,0 +1,191 @@
+// The static library for hosts: the calls of the unit over words that the host owns, and what front panels and debuggers read.
+// No function requires anything: words that are no unit are answered 70, and change nothing. The C header is host/include/kt11b.h.
+use rules::Access;
+ghost use mathlib.Core.Path.{_≡_};
+ghost use Rattle.rules.specs.declared.Call.{Call};
+ghost use Rattle.rules.specs.Memory.{Memory};
+ghost use Rattle.rules.specs.Calls.{fresh};
+ghost use Rattle.coding.specs.Coding.{coded};
+ghost use Rattle.panel.specs.Panel.{registerRead, tagRead, wordRead, counterRead, waitRead, pagePlace};
+ghost use Rattle.kt11b.specs.Doors.{wordsAfter, memoryAfter, replyAfter};
+
+// Calls ----------------------------------------------------------------------------------------------------------------
+
+// "A fresh unit is all zero, then INIT.", whatever was in the words.
+#[no_mangle]
+pub extern "C" fn kt11b_fresh(unit: &mut [u16; coding::WORDS])
+    ensures { λ r. ⌜ now (unit .exit) ≡ coded fresh ⌝ }
+{
+    let after = coding::coded(unit::fresh());
+    *unit = after;
+}
+
+// An access by all its steps.
+fn by_steps(unit: &mut [u16; coding::WORDS], memory: &mut [u8], q: Access) -> u64
+    ensures words { λ r. ⌜ now (unit .exit) ≡ wordsAfter (now (memory .entry)) (now (unit .entry)) (Call.Access q) ⌝ }
+    ensures memory { λ r. ⌜ now (memory .exit) ≡ memoryAfter (now (memory .entry)) (now (unit .entry)) (Call.Access q) ⌝ }
+    ensures reply { λ r. ⌜ r ≡ replyAfter (now (memory .entry)) (now (unit .entry)) (Call.Access q) ⌝ }
+{
+    let w = *unit;
+    if coding::is_unit(w) {
+        let reply = unit::access(coding::decoded(w), memory, q);
+        let u = reply.unit;
+        let after = coding::coded(u);
+        *unit = after;
+        let answer = reply.answer;
+        return replies::replied(answer);
+    }
+    replies::no_unit()
+}
+
+// An access as it comes: the usual one on the core alone, any other by all its steps.
+fn by_sort(unit: &mut [u16; coding::WORDS], memory: &mut [u8], q: Access) -> u64
+    ensures words { λ r. ⌜ now (unit .exit) ≡ wordsAfter (now (memory .entry)) (now (unit .entry)) (Call.Access q) ⌝ }
+    ensures memory { λ r. ⌜ now (memory .exit) ≡ memoryAfter (now (memory .entry)) (now (unit .entry)) (Call.Access q) ⌝ }
+    ensures reply { λ r. ⌜ r ≡ replyAfter (now (memory .entry)) (now (unit .entry)) (Call.Access q) ⌝ }
+{
+    let w = *unit;
+    if coding::is_unit(w) {
+        let c = coding::core_of(w);
+        if quick::usual(memory.len(), c, q) {
+            let list = coding::list_of(w);
+            let a = quick::attempted(memory, c, q, list);
+            if a.done {
+                let o = a.outcome;
+                let e = o.effect;
+                unit::store(memory, e);
+                let core = o.core;
+                let after = coding::with_core(w, core, coding::maps_of(w));
+                *unit = after;
+                let answer = o.answer;
+                return replies::replied(answer);
+            }
+            return by_steps(unit, memory, q);
+        }
+        return by_steps(unit, memory, q);
+    }
+    // Words that are no unit stay as they are.
+    replies::no_unit()
+}
+
+#[no_mangle]
+pub extern "C" fn kt11b_access(
+    unit: &mut [u16; coding::WORDS],
+    memory: &mut [u8],
+    operation: u64,
+    state: u64,
+    width: u64,
+    address: u16,
+    datum: u16,
+) -> u64
+    ensures words { λ r. ⌜ now (unit .exit) ≡ wordsAfter (now (memory .entry)) (now (unit .entry)) (Call.Access (record { op = operation; state = state; width = width; addr = address; datum = datum })) ⌝ }
+    ensures memory { λ r. ⌜ now (memory .exit) ≡ memoryAfter (now (memory .entry)) (now (unit .entry)) (Call.Access (record { op = operation; state = state; width = width; addr = address; datum = datum })) ⌝ }
+    ensures reply { λ r. ⌜ r ≡ replyAfter (now (memory .entry)) (now (unit .entry)) (Call.Access (record { op = operation; state = state; width = width; addr = address; datum = datum })) ⌝ }
+{
+    let q = Access {
+        op: operation,
+        state,
+        width,
+        addr: address,
+        datum,
+    };
+    by_sort(unit, memory, q)
+}
+
+#[no_mangle]
+pub extern "C" fn kt11b_interrupt(unit: &mut [u16; coding::WORDS]) -> u64
+    ensures words { λ r. ⌜ ((m : Memory) → now (unit .exit) ≡ wordsAfter m (now (unit .entry)) Call.Interrupt) ⌝ }
+    ensures reply { λ r. ⌜ ((m : Memory) → r ≡ replyAfter m (now (unit .entry)) Call.Interrupt) ⌝ }
+{
+    let w = *unit;
+    if coding::is_unit(w) {
+        let reply = unit::interrupt(coding::decoded(w));
+        let u = reply.unit;
+        let after = coding::coded(u);
+        *unit = after;
+        let answer = reply.answer;
+        return replies::replied(answer);
+    }
+    replies::no_unit()
+}
+
+#[no_mangle]
+pub extern "C" fn kt11b_trap(unit: &mut [u16; coding::WORDS], vector: u64) -> u64
+    ensures words { λ r. ⌜ ((m : Memory) → now (unit .exit) ≡ wordsAfter m (now (unit .entry)) (Call.Trap vector)) ⌝ }
+    ensures reply { λ r. ⌜ ((m : Memory) → r ≡ replyAfter m (now (unit .entry)) (Call.Trap vector)) ⌝ }
+{
+    let w = *unit;
+    if coding::is_unit(w) {
+        let reply = unit::trap(coding::decoded(w), vector);
+        let u = reply.unit;
+        let after = coding::coded(u);
+        *unit = after;
+        let answer = reply.answer;
+        return replies::replied(answer);
+    }
+    replies::no_unit()
+}
+
+#[no_mangle]
+pub extern "C" fn kt11b_init(unit: &mut [u16; coding::WORDS]) -> u64
+    ensures words { λ r. ⌜ ((m : Memory) → now (unit .exit) ≡ wordsAfter m (now (unit .entry)) Call.Init) ⌝ }
+    ensures reply { λ r. ⌜ ((m : Memory) → r ≡ replyAfter m (now (unit .entry)) Call.Init) ⌝ }
+{
+    let w = *unit;
+    if coding::is_unit(w) {
+        let reply = unit::init(coding::decoded(w));
+        let u = reply.unit;
+        let after = coding::coded(u);
+        *unit = after;
+        let answer = reply.answer;
+        return replies::replied(answer);
+    }
+    replies::no_unit()
+}
+
+// Readings, which change nothing ---------------------------------------------------------------------------------------
+
+// A register by its number in the table of addresses: KTMR 1, KTCS 2, and on to KTEM 10.
+#[no_mangle]
+pub extern "C" fn kt11b_register(unit: &[u16; coding::WORDS], number: usize) -> u64
+    ensures { λ r. ⌜ r ≡ registerRead (now (unit .entry)) number ⌝ }
+{
+    panel::register_read(*unit, number)
+}
+
+#[no_mangle]
+pub extern "C" fn kt11b_cell_tag(unit: &[u16; coding::WORDS], index: usize) -> u64
+    ensures { λ r. ⌜ r ≡ tagRead (now (unit .entry)) index ⌝ }
+{
+    panel::tag_read(*unit, index)
+}
+
+#[no_mangle]
+pub extern "C" fn kt11b_cell_word(unit: &[u16; coding::WORDS], index: usize) -> u64
+    ensures { λ r. ⌜ r ≡ wordRead (now (unit .entry)) index ⌝ }
+{
+    panel::word_read(*unit, index)
+}
+
+#[no_mangle]
+pub extern "C" fn kt11b_counter(unit: &[u16; coding::WORDS]) -> u64
+    ensures { λ r. ⌜ r ≡ counterRead (now (unit .entry)) ⌝ }
+{
+    panel::counter_read(*unit)
+}
+
+// 0 nothing, 1 and 2 the SERVICE DATOs, 3 the second START read.
+#[no_mangle]
+pub extern "C" fn kt11b_wait(unit: &[u16; coding::WORDS]) -> u64
+    ensures { λ r. ⌜ r ≡ waitRead (now (unit .entry)) ⌝ }
+{
+    panel::wait_read(*unit)
+}
+
+// Where the page that a map register's word names begins, in a memory of this length, or the number that says that there is none.
+#[no_mangle]
+pub extern "C" fn kt11b_map_page(length: usize, word: u16) -> usize
+    ensures { λ r. ⌜ r ≡ pagePlace length word ⌝ }
+{
+    panel::page_place(length, word)
+}

@@ -1,0 +1,52 @@
+-- `panel::register_read` meets its contract.
+use Rattle.rules.specs.Choice.{pick}
+use Rattle.panel.specs.Panel.{registerRead}
+use mathlib.Core.Path.{sym}
+use borrow.Author.Tests.{lt-ltb, le-ltb}
+use borrow.Author.Needs.{needs}
+use Rattle.panel.proofs.register_read.Statement.{statement}
+use Rattle.panel.proofs.register_read.Tie as tie
+
+is-unit-requires : tie.Need-is-unit-requires
+is-unit-requires c κs = search needs
+
+decoded-requires : tie.Need-decoded-requires
+decoded-requires c κs = search needs
+
+register-of-requires : tie.Need-register-of-requires
+register-of-requires c κs = search needs
+
+place-read-requires : tie.Need-place-read-requires
+place-read-requires c κs = search needs
+
+returns : tie.Need-returns
+unfolding registerRead pick
+returns c = simp (sym (c .place-read .ensures), sym (c .before .register-of .ensures), sym (c .before .before .decoded .ensures), lt-ltb _ _ (c .before .before .before .if2 .taken), c .before .before .before .before .if1 .taken, sym (c .before .before .before .before .before .is-unit .ensures))
+
+misshapen-requires : tie.Need-misshapen-requires
+misshapen-requires c κs = search needs
+
+returns-2 : tie.Need-returns-2
+unfolding registerRead pick
+returns-2 c = simp (sym (c .misshapen .ensures), le-ltb _ _ (c .before .if2 .left), c .before .before .if1 .taken, sym (c .before .before .before .is-unit .ensures))
+
+no-unit-requires : tie.Need-no-unit-requires
+no-unit-requires c κs = search needs
+
+returns-3 : tie.Need-returns-3
+unfolding registerRead pick
+returns-3 c = simp (sym (c .no-unit .ensures), c .before .if1 .left, sym (c .before .before .is-unit .ensures))
+
+pub register-read-spec : {M : Type 1} → statement M
+register-read-spec =
+    tie.close
+    (tie.spec
+    is-unit-requires
+    decoded-requires
+    register-of-requires
+    place-read-requires
+    returns
+    misshapen-requires
+    returns-2
+    no-unit-requires
+    returns-3)

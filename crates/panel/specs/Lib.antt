@@ -1,0 +1,2 @@
+-- What a front panel or a debugger reads.
+pub mod Panel

@@ -1,0 +1,62 @@
+-- What a front panel or a debugger reads of the words of a unit, and where a map page lies.
+use Prim.Native.Nat.{ℕ, _+_, _*_}
+use mathlib.Core.List.{List, []}
+use lib.Dec.{eqb, ltb, leb}
+use lib.ListN.{getD, take, drop}
+use Rattle.rules.specs.declared.Unit.{Unit}
+use Rattle.rules.specs.declared.Register.{Register}
+use Rattle.rules.specs.declared.Place.{Place}
+use Rattle.rules.specs.Choice.{pick}
+use Rattle.rules.specs.Memory.{Memory}
+use Rattle.rules.specs.Unit.{cellCount, emptyCell}
+use Rattle.rules.specs.Registers.{registerOf, registerWord, peeked}
+use Rattle.rules.specs.Maps.{low9}
+use Rattle.coding.specs.Coding.{waitNumber, isUnit, decoded}
+use Rattle.replies.specs.Replies.{told, noUnit, misshapen}
+
+-- Readings -------------------------------------------------------------------------------------------------------------------------
+
+-- what a register reads: KTMR and the scratchpad words from the cells, the others from the rest of the unit
+unfoldable pub registerIn : Unit → Register → ℕ
+registerIn u Register.Ktmr = peeked (u .cells) Register.Ktmr
+registerIn u Register.Ktcs = registerWord (u .core) (u .maps) Register.Ktcs
+registerIn u (Register.Kept i) = registerWord (u .core) (u .maps) (Register.Kept i)
+registerIn u Register.Ktum = registerWord (u .core) (u .maps) Register.Ktum
+registerIn u Register.Ktem = registerWord (u .core) (u .maps) Register.Ktem
+registerIn u (Register.Pad i) = peeked (u .cells) (Register.Pad i)
+
+unfoldable pub placeRead : Unit → Place → ℕ
+placeRead u Place.Memory = misshapen
+placeRead u Place.Window = misshapen
+placeRead u (Place.In g) = told 0 (registerIn u g)
+placeRead u Place.Nowhere = misshapen
+
+-- a register by its number in the table of addresses, KTMR 1 to KTEM 10; 0 is the window, and from 11 on are the scratchpad words
+unfoldable pub registerRead : List ℕ → ℕ → ℕ
+registerRead w n = pick (isUnit w) (pick (ltb n 11) (placeRead (decoded w) (registerOf n)) misshapen) noUnit
+
+unfoldable pub tagRead : List ℕ → ℕ → ℕ
+tagRead w i = pick (isUnit w) (pick (ltb i cellCount) (told 0 (getD (decoded w .cells .list) i emptyCell .tag)) misshapen) noUnit
+
+unfoldable pub wordRead : List ℕ → ℕ → ℕ
+wordRead w i = pick (isUnit w) (pick (ltb i cellCount) (told 0 (getD (decoded w .cells .list) i emptyCell .word)) misshapen) noUnit
+
+unfoldable pub counterRead : List ℕ → ℕ
+counterRead w = pick (isUnit w) (told 0 (decoded w .cells .counter)) noUnit
+
+unfoldable pub waitRead : List ℕ → ℕ
+waitRead w = pick (isUnit w) (told 0 (waitNumber (decoded w .core .wait))) noUnit
+
+-- The map page ---------------------------------------------------------------------------------------------------------------------
+
+-- the number that says that there is none
+abbrev pub noPage : ℕ
+noPage = 0xffffffffffffffff
+
+-- where the page that a map register names begins, in a memory of this length
+unfoldable pub pagePlace : ℕ → ℕ → ℕ
+pagePlace len r = pick (leb (512 * low9 r + 512) len) (512 * low9 r) noPage
+
+-- the part of memory that such a place stands for
+unfoldable pub pageAt : Memory → ℕ → Memory
+pageAt m at = pick (eqb at noPage) [] (take 512 (drop at m))

@@ -1,0 +1,3 @@
+-- What the proofs of the usual access share.
+pub mod Noted
+pub mod Sounds

@@ -1,0 +1,2 @@
+-- The usual access, and what an attempt at it owes.
+pub mod Usual

@@ -1,0 +1,2 @@
+-- A reply of the library as one number.
+pub mod Replies
