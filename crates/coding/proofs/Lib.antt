@@ -1,3 +1,4 @@
 -- What is proved of the coding: that it goes there and back, and what its functions' proofs share.
 pub mod Fronts
 pub mod Laws
+pub mod Stays

@@ -41,6 +41,18 @@ digits :
     × (x / 8192 % 2 ≡ h) × (x / 16384 % 2 ≡ k) × (x / 32768 % 2 ≡ l)
 digits f a b c d e g h k l x hf ha hb hc hd he hg hh hk hl hx = omega arith
 
+between-zero :
+    (f a b c d e g h k l x : ℕ) → f < 4 → a ≤ 1 → b ≤ 1 → c ≤ 1 → d ≤ 1
+    → x ≡ f + 4 * a + 8 * b + 16 * c + 32 * d + 2048 * e + 4096 * g + 8192 * h + 16384 * k + 32768 * l
+    → x / 64 % 32 ≡ 0
+between-zero f a b c d e g h k l x hf ha hb hc hd hx = omega arith
+
+-- "others read 0": bits 10 to 6
+pub packed-zeros : (s : Ktcs) → packed s / 64 % 32 ≡ 0
+packed-zeros s =
+    between-zero (s .fcn % 4) (one (s .ss)) (one (s .ds)) (one (s .um)) (one (s .iu)) (one (s .rv)) (one (s .pv)) (one (s .wv)) (one (s .av)) (one (s .iv)) (packed s)
+    (omega arith) (one-small (s .ss)) (one-small (s .ds)) (one-small (s .um)) (one-small (s .iu)) (packed-sum s)
+
 -- There and back: what was packed is unpacked as it was.
 pub unpacked-packed : (s : Ktcs) → s .fcn < 4 → unpacked (packed s) ≡ s
 unfolding unpacked bitIn
