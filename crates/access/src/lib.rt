@@ -35,7 +35,7 @@ fn after_wait(m: &[u8], c: Core, r: Maps, q: Access, due: Due, k: Cells) -> Ran
     let kept = c.kept;
     match due {
         Due::Steps => stepped(m, c, r, q, k),
-        Due::Late => transfer::ended(endings::refused(c, Answer::NotDue), k),
+        Due::OutOfTurn => transfer::ended(endings::refused(c, Answer::NotDue), k),
         Due::StatusStore => transfer::ended(
             endings::sequenced(0, sequences::status_stored(c, q.datum)),
             k,

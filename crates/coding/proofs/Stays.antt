@@ -3,16 +3,12 @@ use Prim.Native.Nat.{_/_, _<_}
 use mathlib.Core.Path.{_≡_, refl}
 use mathlib.Core.Bool.{Bool, true, false}
 use native.Mathlib.Omega.{arith}
-use lib.ListN.{length}
 use borrow.Author.Tests.{eq-eqb, lt-ltb}
 use Rattle.rules.specs.declared.Wait.{Wait}
 use Rattle.rules.specs.declared.Unit.{Unit}
-use Rattle.rules.specs.Unit.{emptied, zeroUnit, initCore}
-use Rattle.rules.specs.Program.{run}
-use Rattle.rules.specs.Order.{outcome}
-use Rattle.rules.specs.Calls.{called, initOf, cellsAfter, mapsAfter, settled, callOf, fresh}
+use Rattle.rules.specs.Unit.{cellCount}
 use Rattle.rules.proofs.StatusLaws.{packed-zeros}
-use Rattle.rules.proofs.Demand3.{UnitFit}
+use Rattle.rules.proofs.Promises.{UnitFit}
 use Rattle.coding.specs.Coding.{waitNumber, flagNumber, isUnit, coreWords, cellWords, cellsWords, coded}
 
 wait-small : (w : Wait) → waitNumber w < 4
@@ -27,16 +23,11 @@ unfolding flagNumber
 flag-small true = omega arith
 flag-small false = omega arith
 
-fresh-cells : length (fresh .cells .list) ≡ 8
-unfolding fresh callOf settled run called initOf outcome cellsAfter emptied zeroUnit
-fresh-cells = refl
-
 -- UnitFit holds of a fresh unit and after every call (`fresh-fit` and `call-fit` of the rules).
-pub fit-is-unit : (u : Unit) → UnitFit u → isUnit (coded u) ≡ true
+pub fit-is-unit : (u : Unit) → UnitFit cellCount u → isUnit (coded u) ≡ true
 unfolding isUnit coded coreWords cellsWords cellWords
 fit-is-unit u h =
-    let eight : length (fresh .cells .list) ≡ 8 = fresh-cells in
-    let below : u .cells .counter < 16 = omega (arith, h .cells .below, eight) in
+    let below : u .cells .counter < 16 = omega (arith, h .cells .below) in
     let datos : u .core .fetch .datos < 3 = omega (arith, h .core .datos, h .core .accesses) in
     let accesses : u .core .fetch .accesses < 3 = omega (arith, h .core .accesses) in
     let counter : u .cells .counter / 8 ≡ 1 = omega (arith, h .cells .from, below) in

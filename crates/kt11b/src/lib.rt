@@ -1,11 +1,14 @@
 // The static library for hosts: the calls of the unit over words that the host owns, and what front panels and debuggers read.
 // No function requires anything: words that are no unit are answered 70, and change nothing. The C header is host/include/kt11b.h.
 use rules::Access;
+use rules::Reply;
 ghost use mathlib.Core.Path.{_≡_};
 ghost use Rattle.rules.specs.declared.Call.{Call};
 ghost use Rattle.rules.specs.Memory.{Memory};
 ghost use Rattle.rules.specs.Calls.{fresh};
+ghost use Rattle.rules.specs.Answers.{shown};
 ghost use Rattle.coding.specs.Coding.{coded};
+ghost use Rattle.replies.specs.Replies.{replyWord};
 ghost use Rattle.panel.specs.Panel.{registerRead, tagRead, wordRead, counterRead, waitRead, pagePlace};
 ghost use Rattle.kt11b.specs.Doors.{wordsAfter, memoryAfter, replyAfter};
 
@@ -20,6 +23,18 @@ pub extern "C" fn kt11b_fresh(unit: &mut [u16; coding::WORDS])
     *unit = after;
 }
 
+// The unit that a call leaves goes back into its words, and its answer to the host.
+fn put_back(unit: &mut [u16; coding::WORDS], reply: Reply) -> u64
+    ensures words { λ r. ⌜ now (unit .exit) ≡ coded (reply .unit) ⌝ }
+    ensures answer { λ r. ⌜ r ≡ replyWord (shown (reply .answer)) ⌝ }
+{
+    let u = reply.unit;
+    let after = coding::coded(u);
+    *unit = after;
+    let answer = reply.answer;
+    replies::replied(answer)
+}
+
 // An access by all its steps.
 fn by_steps(unit: &mut [u16; coding::WORDS], memory: &mut [u8], q: Access) -> u64
     ensures words { λ r. ⌜ now (unit .exit) ≡ wordsAfter (now (memory .entry)) (now (unit .entry)) (Call.Access q) ⌝ }
@@ -29,11 +44,7 @@ fn by_steps(unit: &mut [u16; coding::WORDS], memory: &mut [u8], q: Access) -> u6
     let w = *unit;
     if coding::is_unit(w) {
         let reply = unit::access(coding::decoded(w), memory, q);
-        let u = reply.unit;
-        let after = coding::coded(u);
-        *unit = after;
-        let answer = reply.answer;
-        return replies::replied(answer);
+        return put_back(unit, reply);
     }
     replies::no_unit()
 }
@@ -100,11 +111,7 @@ pub extern "C" fn kt11b_interrupt(unit: &mut [u16; coding::WORDS]) -> u64
     let w = *unit;
     if coding::is_unit(w) {
         let reply = unit::interrupt(coding::decoded(w));
-        let u = reply.unit;
-        let after = coding::coded(u);
-        *unit = after;
-        let answer = reply.answer;
-        return replies::replied(answer);
+        return put_back(unit, reply);
     }
     replies::no_unit()
 }
@@ -117,11 +124,7 @@ pub extern "C" fn kt11b_trap(unit: &mut [u16; coding::WORDS], vector: u64) -> u6
     let w = *unit;
     if coding::is_unit(w) {
         let reply = unit::trap(coding::decoded(w), vector);
-        let u = reply.unit;
-        let after = coding::coded(u);
-        *unit = after;
-        let answer = reply.answer;
-        return replies::replied(answer);
+        return put_back(unit, reply);
     }
     replies::no_unit()
 }
@@ -134,11 +137,7 @@ pub extern "C" fn kt11b_init(unit: &mut [u16; coding::WORDS]) -> u64
     let w = *unit;
     if coding::is_unit(w) {
         let reply = unit::init(coding::decoded(w));
-        let u = reply.unit;
-        let after = coding::coded(u);
-        *unit = after;
-        let answer = reply.answer;
-        return replies::replied(answer);
+        return put_back(unit, reply);
     }
     replies::no_unit()
 }

@@ -31,7 +31,7 @@ use Rattle.rules.specs.Maps.{unpaged, pageOf, physicalAt, publicBit, execZero, 
 use Rattle.rules.specs.Fetched.{isFetch, afterFetch, noted}
 use Rattle.rules.specs.Steps.{wellShaped, oddWord, judged, watches, dueWhen, dueOf, publicPage, forbidden}
 use Rattle.rules.specs.Program.{Prog, done, ask, run}
-use Rattle.rules.specs.Order.{outcome, readAt, fetched, flagAfter, memoryEffect, storedAt, transferred, wordJudged, pagedReached, outerTarget, outerRuled, pagedFrom, afterWait, accessed}
+use Rattle.rules.specs.Order.{outcome, sourceAt, readFrom, readAt, fetched, flagAfter, memoryEffect, storedAt, transferred, wordJudged, pagedReached, outerTarget, outerRuled, pagedFrom, afterWait, accessed}
 use Rattle.rules.specs.Calls.{mapsAfter, cellsAfter}
 use Rattle.rules.proofs.Choices.{both-true}
 use Rattle.rules.proofs.RunLaws.{run-done, run-ask}
@@ -81,7 +81,7 @@ module _ (m : Memory) (q : Access) (at : ℕ) (a : Attempt) (k : Cells) where
       → d ≡ withFetch c (afterFetch (c .fetch) w (publicBit v))
       → a ≡ record { done = true; outcome = record { answer = Answer.Done w at; core = d; effect = Effect.Keep } }
       → Sound a m (λ r. readAt m (job q c r) at Place.Memory (wordJudged (job q c r) at Place.Memory (Entry.Mapped v))) k
-  unfolding readAt wordJudged fetched flagAfter publicPage outcome pick
+  unfolding sourceAt readFrom readAt wordJudged fetched flagAfter publicPage outcome pick
   fetch-owed c d v w read allowed after is =
       ended-owed a m _ k _ is quiet-keep (λ r. simp (sym read, allowed, sym after))
 
@@ -89,7 +89,7 @@ module _ (m : Memory) (q : Access) (at : ℕ) (a : Attempt) (k : Cells) where
       (c : Core) (w : ℕ) → ltb (q .op) 2 ≡ true → w ≡ wordAt m (evenOf at)
       → a ≡ record { done = true; outcome = record { answer = Answer.Done w at; core = c; effect = Effect.Keep } }
       → Sound a m (λ r. transferred m (job q c r) at Place.Memory) k
-  unfolding transferred readAt outcome pick
+  unfolding transferred sourceAt readFrom readAt outcome pick
   read-owed c w reads read is = ended-owed a m _ k _ is quiet-keep (λ r. simp (reads, sym read))
 
   pub store-owed :

@@ -11,9 +11,11 @@ use Rattle.rules.specs.Order.{outcome, storedAt}
 use Rattle.rules.specs.Calls.{settled, callOf}
 use Rattle.rules.specs.Answers.{shownAs, faultShown, shown}
 use Rattle.rules.proofs.Choices.{picked}
-use Rattle.rules.proofs.Demand1.{Keys, off-map, not-resident, not-writable, not-public, granted, exec-zero, There, memory, register, Transfer, read, store}
-use Rattle.rules.proofs.Demand1.{Granted, InnerGranted, AtFault, odd, keys-refuse, nowhere, window-by-fetch, forbidden-word, inner-odd, inner-keys-refuse, inner-nowhere, window-on-window}
-use Rattle.rules.proofs.Demand1.{Way, misshapen, late, status-stored, program-counter-stored, first-read, second-read, unpaged-odd, unpaged-nowhere, unpaged-window, unpaged-fetch, unpaged-transfer, violation, fetch, transfer, inner-transfer, EighteenBits}
+use Rattle.rules.proofs.Promises.{EighteenBits}
+use Rattle.rules.proofs.Ways.{Keys, off-map, not-resident, not-writable, not-public, granted, exec-zero, There, memory, register, Transfer, read, store}
+use Rattle.rules.proofs.Ways.{Granted, InnerGranted}
+use Rattle.rules.proofs.Ways.{AtFault, odd, keys-refuse, nowhere, window-by-fetch, forbidden-word, inner-odd, inner-keys-refuse, inner-nowhere, window-on-window}
+use Rattle.rules.proofs.Ways.{Way, misshapen, late, status-stored, program-counter-stored, first-read, second-read, unpaged-odd, unpaged-nowhere, unpaged-window, unpaged-fetch, unpaged-transfer, violation, fetch, transfer, inner-transfer}
 use Rattle.rules.proofs.Why.{way}
 
 -- exec page 0's physical page, as a look-up gives it
@@ -43,7 +45,7 @@ granted-page (granted r l h) z = omega arith
 granted-page exec-zero z = z _ refl
 
 paged-bits : (page a : ℕ) → page < 512 → physicalAt page a < 0o1000000
-unfolding physicalAt
+unfolding physicalAt low9
 paged-bits page a h = omega arith
 
 unpaged-bits : (a : ℕ) → a < 0o200000 → unpagedAt a < 0o1000000

@@ -11,7 +11,7 @@ use Rattle.rules.specs.Unit.{emptyCell, emptied}
 use Rattle.rules.specs.Maps.{tagIn, cellOf, cellForgotten, forgotten}
 use Rattle.rules.proofs.Choices.{pick-same}
 use Rattle.rules.proofs.Lists.{getD-replicate-default, found-is-there, missing-is-nowhere}
-use Rattle.rules.proofs.Demand3.{cellAt}
+use Rattle.rules.proofs.Promises.{cellAt}
 
 pub empty-tag : emptyCell .tag ≡ 0
 unfolding emptyCell

@@ -10,10 +10,10 @@ use Rattle.rules.specs.Types.{Ktcs, Fetch, Wait, Core, Access, Register,
 use Rattle.rules.specs.Unit.{clearFetch, clearKtcs, withKtcs, withKept, withFetch, initCore}
 use Rattle.rules.specs.Status.{withModes, withStates, withFlags, flagsClear, fcnStored, ktcsStored}
 use Rattle.rules.specs.Fetched.{isFetch, isDato, oneMore, counted, normal, statesMarked, instructionNoted, marked, noted, afterFetch}
-use Rattle.rules.specs.Sequences.{leftFor, flagged, startEnded, linesKept, faultData, violated, timedOut, statusStored, programCounterStored, firstReadDone, userStarted, interrupted, trapTaken, trapped, idle}
+use Rattle.rules.specs.Sequences.{serviceAwaited, flagged, startEnded, linesKept, faultData, violated, timedOut, statusStored, programCounterStored, firstReadDone, userStarted, interrupted, trapTaken, trapped, idle}
 use Rattle.rules.specs.Order.{coreStored}
 use Rattle.rules.proofs.Choices.{true-is-not-false, picked}
-use Rattle.rules.proofs.Demand3.{WaitFits, CoreFit}
+use Rattle.rules.proofs.Promises.{WaitFits, CoreFit}
 
 -- "each stops at 2", and DATOs are among the accesses
 record CountsFit (f : Fetch) : Type 0 where
@@ -99,8 +99,8 @@ flagged-fcn s Fault.NoTarget = refl
 flagged-fcn s (Fault.Forbidden w at) = refl
 
 -- what a violation, an interrupt and a trap share
-left-fits : (s : Ktcs) (kept : List ℕ) → s .fcn < 4 → (s .fcn ≡ 3 → ⊥) → CoreFit (leftFor s kept)
-unfolding leftFor withModes clearFetch
+left-fits : (s : Ktcs) (kept : List ℕ) → s .fcn < 4 → (s .fcn ≡ 3 → ⊥) → CoreFit (serviceAwaited s kept)
+unfolding serviceAwaited withModes clearFetch
 left-fits s kept h n = record { fcn = h; wait = (refl, n); datos = omega arith; accesses = omega arith }
 
 startEnded-ended : (s : Ktcs) → s .fcn < 4 → (startEnded s .fcn < 4) × (startEnded s .fcn ≡ 3 → ⊥)

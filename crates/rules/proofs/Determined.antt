@@ -13,11 +13,12 @@ use Rattle.rules.specs.Program.{Prog, run}
 use Rattle.rules.specs.Order.{outcome, refused, faulted, outerFault, transferred, fetched, wordJudged, unpagedReached, unpagedTimeOut, unpagedTarget, unpagedFrom, innerFault, innerTarget, innerRuled, windowed, pagedReached, outerTarget, outerRuled, pagedFrom, sequenced, afterWait, accessed}
 use Rattle.rules.specs.Calls.{interruptOf, trapOf, initOf, called}
 use Rattle.rules.proofs.RunLaws.{run-readAt}
-use Rattle.rules.proofs.Demand1.{job, outer, inner, outerAt, innerAt, Keys, off-map, not-resident, not-writable, not-public, granted, exec-zero, There, memory, register, faultEnding, Transfer, read, store}
-use Rattle.rules.proofs.Demand1.{Begun, Unpaged, UnpagedThere, Paged, Asked, Granted, PagedThere, Windowed, InnerAsked, InnerGranted, InnerThere}
-use Rattle.rules.proofs.Demand1.{AtFault, odd, keys-refuse, nowhere, window-by-fetch, forbidden-word, inner-odd, inner-keys-refuse, inner-nowhere, window-on-window}
-use Rattle.rules.proofs.Demand1.{Way, misshapen, late, status-stored, program-counter-stored, first-read, second-read, unpaged-odd, unpaged-nowhere, unpaged-window, unpaged-fetch, unpaged-transfer, violation, fetch, transfer, inner-transfer}
-use Rattle.rules.proofs.Demand1.{access, interrupt-late, interrupt-taken, unlisted, trap-late, trap-taken, init, decided, Settled}
+use Rattle.rules.proofs.Promises.{job, outer, inner}
+use Rattle.rules.proofs.Ways.{outerAt, innerAt, Keys, off-map, not-resident, not-writable, not-public, granted, exec-zero, There, memory, register, faultEnding, Transfer, read, store}
+use Rattle.rules.proofs.Ways.{Begun, Unpaged, UnpagedThere, Paged, Asked, Granted, PagedThere, Windowed, InnerAsked, InnerGranted, InnerThere}
+use Rattle.rules.proofs.Ways.{AtFault, odd, keys-refuse, nowhere, window-by-fetch, forbidden-word, inner-odd, inner-keys-refuse, inner-nowhere, window-on-window}
+use Rattle.rules.proofs.Ways.{Way, misshapen, late, status-stored, program-counter-stored, first-read, second-read, unpaged-odd, unpaged-nowhere, unpaged-window, unpaged-fetch, unpaged-transfer, violation, fetch, transfer, inner-transfer}
+use Rattle.rules.proofs.Ways.{access, interrupt-late, interrupt-taken, unlisted, trap-late, trap-taken, init, decided, Settled}
 
 pub keys-judged : {op : ℕ} {watched : Bool} {e : Entry} {g : Ruling} → Keys op watched e g → judged op watched e ≡ g
 unfolding judged keysOf pick

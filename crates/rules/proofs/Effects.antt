@@ -9,22 +9,24 @@ use borrow.Author.Tests.{ltb-true, ltb-false, eqb-true, eqb-false, not-true, not
 use Rattle.rules.specs.Types.{Cells, Unit, Access, Call, Place, Part, Register, Answer, Ran}
 use Rattle.rules.specs.Memory.{Memory, goodLength}
 use Rattle.rules.specs.Registers.{placeOf, partOf}
-use Rattle.rules.specs.Fetched.{isFetch}
+use Rattle.rules.specs.Fetched.{isFetch, isDato}
 use Rattle.rules.specs.Steps.{listed, wordDati, illFitting, wellShaped}
 use Rattle.rules.specs.Order.{outcome, storedAt, memoryEffect, registerEffect}
 use Rattle.rules.specs.Answers.{shownAs, shown}
 use Rattle.rules.proofs.Choices.{both-true, both-false, second-false, picked}
-use Rattle.rules.proofs.Demand1.{job, There, memory, register, Transfer, read, store}
-use Rattle.rules.proofs.Demand1.{Way, misshapen, late, status-stored, program-counter-stored, first-read, second-read, unpaged-odd, unpaged-nowhere, unpaged-window, unpaged-fetch, unpaged-transfer, violation, fetch, transfer, inner-transfer}
-use Rattle.rules.proofs.Demand1.{Why, access, interrupt-late, interrupt-taken, unlisted, trap-late, trap-taken, init}
-use Rattle.rules.proofs.Demand1.{Stores, word-store, byte-store, ktmr-store, ktcs-store, kept-store, ktum-store, ktem-store, pad-store}
-use Rattle.rules.proofs.Demand1.{Does, after-refusal, after-unpaged-time-out, after-fault, after-init, after-interrupt, after-trap, after-sequence, after-read, after-store, EffectsByAnswer}
-use Rattle.rules.proofs.Ended.{op-listed, granted-paged, inner-granted-paged}
+use Rattle.rules.proofs.Promises.{job}
+use Rattle.rules.proofs.Ways.{There, memory, register, Transfer, read, store}
+use Rattle.rules.proofs.Ways.{Way, misshapen, late, status-stored, program-counter-stored, first-read, second-read, unpaged-odd, unpaged-nowhere, unpaged-window, unpaged-fetch, unpaged-transfer, violation, fetch, transfer, inner-transfer}
+use Rattle.rules.proofs.Ways.{Why, access, interrupt-late, interrupt-taken, unlisted, trap-late, trap-taken, init}
+use Rattle.rules.proofs.Ways.{Stores, word-store, byte-store, ktmr-store, ktcs-store, kept-store, ktum-store, ktem-store, pad-store}
+use Rattle.rules.proofs.Ways.{Does, after-refusal, after-unpaged-time-out, after-fault, after-init, after-interrupt, after-trap, after-sequence, after-read, after-store, EffectsByAnswer}
+use Rattle.rules.proofs.InOrder.{granted-paged, inner-granted-paged}
+use Rattle.rules.proofs.Ended.{op-listed}
 use Rattle.rules.proofs.Why.{why}
 
 -- "FETCH not a word DATI" is refused: a fetch that comes to its steps reads
 pub fetch-reads : (len : ℕ) (q : Access) → wellShaped len q ≡ true → isFetch q ≡ true → q .op < 2
-unfolding wellShaped illFitting wordDati
+unfolding wellShaped illFitting isDato wordDati
 fetch-reads len q s e =
     let (l, _) = both-true _ (goodLength len) s in
     let (_, f) = both-true (listed q) (not (illFitting q)) l in

@@ -9,20 +9,22 @@ use lib.ListN.{length, length-set}
 use borrow.Author.Tests.{ltb-true, ltb-false, eqb-true, eqb-false}
 use Rattle.rules.specs.Types.{Core, Cells, Unit, Access, Call, Place, Part, Register, Fault, Answer, Effect, Ran}
 use Rattle.rules.specs.Memory.{Memory, storeWord, storeByte}
+use Rattle.rules.specs.Unit.{withKept}
 use Rattle.rules.specs.Registers.{partOf}
 use Rattle.rules.specs.Maps.{unpaged}
 use Rattle.rules.specs.Steps.{wellShaped, listed}
+use Rattle.rules.specs.Sequences.{timedOut}
 use Rattle.rules.specs.Order.{outcome, storedAt, memoryEffect, registerEffect}
 use Rattle.rules.specs.Calls.{mapsAfter, cellsAfter, memoryAfter, settled, callOf}
 use Rattle.rules.specs.Answers.{shownAs, faultShown, shown}
 use Rattle.rules.proofs.Choices.{picked}
-use Rattle.rules.proofs.Demand1.{job, There, memory, register, ending, unchanged, timeOut, faultEnding, Transfer, read, store}
-use Rattle.rules.proofs.Demand1.{Paged, Granted, Windowed, InnerGranted, AtFault, odd, keys-refuse, nowhere, window-by-fetch, forbidden-word, inner-odd, inner-keys-refuse, inner-nowhere, window-on-window}
-use Rattle.rules.proofs.Demand1.{Way, misshapen, late, status-stored, program-counter-stored, first-read, second-read, unpaged-odd, unpaged-nowhere, unpaged-window, unpaged-fetch, unpaged-transfer, violation, fetch, transfer, inner-transfer}
-use Rattle.rules.proofs.Demand1.{Why, access, interrupt-late, interrupt-taken, unlisted, trap-late, trap-taken, init}
-use Rattle.rules.proofs.Demand1.{Numbered, Stored, nothing, word, byte, StoredOnly, MemoryUntouched, LengthKept, RefusedUnchanged, UnpagedTimeOut, UnpagedRefusal, Violation, PagedRefusal}
+use Rattle.rules.proofs.Promises.{NumbersOfSteps, job, Numbered, MemoryUntouched, LengthKept, RefusedUnchanged, UnpagedTimeOut, UnpagedRefusal, Violation, PagedRefusal}
+use Rattle.rules.proofs.Ways.{There, memory, register, ending, unchanged, timeOut, faultEnding, Transfer, read, store, AtFault}
+use Rattle.rules.proofs.Ways.{Way, misshapen, late, status-stored, program-counter-stored, first-read, second-read, unpaged-odd, unpaged-nowhere, unpaged-window, unpaged-fetch, unpaged-transfer, violation, fetch, transfer, inner-transfer}
+use Rattle.rules.proofs.Ways.{Why, access, interrupt-late, interrupt-taken, unlisted, trap-late, trap-taken, init, Stored, nothing, word, byte, StoredOnly}
 use Rattle.rules.proofs.Why.{why}
-use Rattle.rules.proofs.Kept.{timed-out-keeps, violated-keeps, forgotten-keeps}
+use Rattle.rules.proofs.InOrder.{granted-paged, inner-granted-paged, fault-paged, inside-so, tag-so, cells-so}
+use Rattle.rules.proofs.Kept.{step4-leaves, timed-out-registers, violated-keeps, forgotten-keeps}
 
 data Ended (m : Memory) (u : Unit) : Call → Ran → Type 0 where
   as-it-was : {c : Call} {a : Answer} → shown a .number < 4 → Ended m u c (unchanged u a)
@@ -72,26 +74,6 @@ module _ {m : Memory} {u : Unit} where
   transfer-ended s (register {g = Register.Ktum}) (store e) = accepted refl nothing
   transfer-ended s (register {g = Register.Ktem}) (store e) = accepted refl nothing
   transfer-ended s (register {g = Register.Pad i}) (store e) = accepted refl nothing
-
-  pub granted-paged : {q : Access} {page : ℕ} → Granted m u q page → Paged m u q
-  granted-paged s = s .steps .steps
-
-  windowed-paged : {q : Access} → Windowed m u q → Paged m u q
-  windowed-paged s = granted-paged (s .steps)
-
-  pub inner-granted-paged : {q : Access} {page : ℕ} → InnerGranted m u q page → Paged m u q
-  inner-granted-paged s = windowed-paged (s .steps .steps)
-
-  fault-paged : {q : Access} {f : Fault} {window : Bool} {tag : ℕ} {k : Cells} → AtFault m u q f window tag k → Paged m u q
-  fault-paged (odd s e) = s
-  fault-paged (keys-refuse s h) = s .steps
-  fault-paged (nowhere s e) = granted-paged s
-  fault-paged (window-by-fetch s e t) = granted-paged s
-  fault-paged (forbidden-word s t r e) = granted-paged (s .steps)
-  fault-paged (inner-odd s e) = windowed-paged s
-  fault-paged (inner-keys-refuse s h) = windowed-paged (s .steps)
-  fault-paged (inner-nowhere s e) = inner-granted-paged s
-  fault-paged (window-on-window s e) = inner-granted-paged s
 
   access-ended : {q : Access} {d : Ran} → Way m u q d → Ended m u (Call.Access q) d
   unfolding memoryAfter shown shownAs
@@ -175,11 +157,20 @@ module _ {m : Memory} {u : Unit} where
   ended-unpaged :
       {q : Access} {d : Ran} → Ended m u (Call.Access q) d → unpaged (u .core .ktcs .fcn) (q .state) ≡ true
       → 3 < shown (d .outcome .answer) .number → UnpagedTimeOut u q (settled m (u .maps) d)
-  unfolding settled mapsAfter cellsAfter shown faultShown shownAs
+  unfolding settled mapsAfter cellsAfter shown faultShown shownAs timedOut withKept
   ended-unpaged (as-it-was h) t l = absurd (omega arith)
   ended-unpaged (accepted e s) t l = absurd (omega arith)
   ended-unpaged {q} (timed-out e) t l =
-      record { number = refl; core = refl; maps = refl; cells = refl; keeps = timed-out-keeps (u .core) q e }
+      record {
+        number = refl;
+        core = refl;
+        maps = refl;
+        cells = refl;
+        ktcs = refl;
+        registers = timed-out-registers (u .core) q e;
+        wait = step4-leaves (u .core) q .wait;
+        fetch = refl;
+      }
   ended-unpaged (violated-at e s) t l = absurd (true≢false (cc))
 
   ended-paged :
@@ -192,17 +183,29 @@ module _ {m : Memory} {u : Unit} where
   ended-paged {q} (violated-at {f} {window} {tag} {k} e s) t l =
       record {
         fault = f;
-        window = window;
-        tag = tag;
-        left = k;
-        at-fault = s;
         answer = refl;
-        core = refl;
+        core = rw (inside-so s);
         maps = refl;
-        cells = refl;
-        keeps = violated-keeps (u .core) q window f;
-        others = forgotten-keeps k tag;
+        cells = rw (tag-so s, cells-so s);
+        keeps = rw (inside-so s) (violated-keeps (u .core) q window f);
+        others = rw (tag-so s, cells-so s) (forgotten-keeps k tag);
       }
+
+pub numbers-of-steps : NumbersOfSteps
+unfolding shown faultShown shownAs
+numbers-of-steps =
+    record {
+      shape = refl;
+      wait = refl;
+      unpaged-odd = refl;
+      paged-odd = refl;
+      walk = refl;
+      residency = refl;
+      write-key = refl;
+      privacy = refl;
+      target = refl;
+      fetched-word = λ w at. refl;
+    }
 
 pub numbered : Numbered
 numbered m u c = answer-number (callOf m u c .reply .answer)

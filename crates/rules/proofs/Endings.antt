@@ -9,19 +9,19 @@ use borrow.Author.Tests.{eqb-true, eqb-false, eq-eqb, ltb-true, ltb-false, not-t
 use Rattle.rules.specs.Types.{Wait, Core, Maps, Access, Call, Register, Place, Part, Entry, Due, Fault, Ruling, Answer, Effect, Outcome, Job}
 use Rattle.rules.specs.Memory.{Memory, goodLength}
 use Rattle.rules.specs.Registers.{partOf}
-use Rattle.rules.specs.Maps.{unpaged, unpagedAt, physicalAt}
-use Rattle.rules.specs.Fetched.{isFetch, noted}
+use Rattle.rules.specs.Maps.{unpaged, unpagedAt, physicalAt, low9}
+use Rattle.rules.specs.Fetched.{isFetch, noted, isDato}
 use Rattle.rules.specs.Steps.{listed, illFitting, wellShaped, serviceDato, startRead, dueWhen, dueOf, oddWord, forbidden}
 use Rattle.rules.specs.Sequences.{vectorListed, idle}
 use Rattle.rules.specs.Program.{Prog, done}
-use Rattle.rules.specs.Order.{outcome, refused, faulted, outerFault, readIn, readAt, registerEffect, memoryEffect, storedAt, transferred, fetched, wordJudged, unpagedReached, unpagedTimeOut, unpagedTarget, unpagedFrom, windowAddr, innerFault, innerTarget, innerRuled, windowed, pagedReached, outerTarget, outerRuled, pagedFrom, sequenced, afterWait, accessed}
+use Rattle.rules.specs.Order.{outcome, refused, faulted, outerFault, Source, at-hand, in-cells, sourceAt, readFrom, readAt, registerEffect, memoryEffect, storedAt, transferred, fetched, wordJudged, unpagedReached, unpagedTimeOut, unpagedTarget, unpagedFrom, windowAddr, innerFault, innerTarget, innerRuled, windowed, pagedReached, outerTarget, outerRuled, pagedFrom, sequenced, afterWait, accessed}
 use Rattle.rules.specs.Calls.{interruptOf, trapOf, initOf, called}
 use Rattle.rules.proofs.Choices.{both-true, both-false, second-false, picked}
 use Rattle.rules.proofs.Pages.{pageOf-below}
 use Rattle.rules.proofs.Always.{Always, ends, asks, peeks-at, EvenStore}
 use Rattle.rules.proofs.CoreLaws
 use Rattle.rules.proofs.CoreLaws.{Calm}
-use Rattle.rules.proofs.Demand3.{CoreFit}
+use Rattle.rules.proofs.Promises.{CoreFit}
 
 -- an outcome of a call of a unit with this core
 pub record Ending (c : Core) (o : Outcome) : Type 0 where
@@ -50,7 +50,7 @@ record Shaped (q : Access) : Type 0 where
   word : q .op ≡ 2 → q .width ≡ 0
 
 wellShaped-shaped : (len : ℕ) (q : Access) → wellShaped len q ≡ true → Shaped q
-unfolding wellShaped listed illFitting
+unfolding wellShaped listed illFitting isDato
 wellShaped-shaped len q e =
     let (s, _) = both-true _ (goodLength len) e in
     let (l, f) = both-true (listed q) (not (illFitting q)) s in
@@ -73,7 +73,7 @@ addr-aligned q a s e o =
     omega (arith, eqb-false (a % 2) 1 (second-false (eqb (q .width) 0) _ e (eq-eqb (q .width) 0 (s .word o))))
 
 physical-aligned : (page a : ℕ) → a % 2 ≡ 0 → physicalAt page a % 2 ≡ 0
-unfolding physicalAt
+unfolding physicalAt low9
 physical-aligned page a h = omega arith
 
 unpaged-aligned : (a : ℕ) → a % 2 ≡ 0 → unpagedAt a % 2 ≡ 0
@@ -118,22 +118,15 @@ module _ (c : Core) (m : Memory) (j : Job) (shaped : Shaped (j .q)) (calm : Core
   unfolding innerFault
   innerFault-ends f = faulted-ends _ _ f
 
-  readIn-ends : (g : Register) (f : ℕ → Prog) → ((w : ℕ) → Always (Ending c) (f w)) → Always (Ending c) (readIn j g f)
-  unfolding readIn
-  readIn-ends Register.Ktmr f h = peeks-at h
-  readIn-ends Register.Ktcs f h = h _
-  readIn-ends (Register.Kept i) f h = h _
-  readIn-ends Register.Ktum f h = h _
-  readIn-ends Register.Ktem f h = h _
-  readIn-ends (Register.Pad i) f h = peeks-at h
+  readFrom-ends : (s : Source) (f : ℕ → Prog) → ((w : ℕ) → Always (Ending c) (f w)) → Always (Ending c) (readFrom s f)
+  unfolding readFrom
+  readFrom-ends (at-hand w) f h = h w
+  readFrom-ends (in-cells g) f h = peeks-at h
 
   readAt-ends :
       (at : ℕ) (pl : Place) (f : ℕ → Prog) → ((w : ℕ) → Always (Ending c) (f w)) → Always (Ending c) (readAt m j at pl f)
   unfolding readAt
-  readAt-ends at Place.Memory f h = h _
-  readAt-ends at Place.Window f h = h _
-  readAt-ends at (Place.In g) f h = readIn-ends g f h
-  readAt-ends at Place.Nowhere f h = h _
+  readAt-ends at pl f h = readFrom-ends (sourceAt m j at pl) f h
 
   storedAt-ends : (p : Part) (at : ℕ) (pl : Place) → (p ≡ Part.Whole → at % 2 ≡ 0) → Ending c (storedAt j p at pl)
   unfolding storedAt outcome

@@ -6,21 +6,22 @@ use mathlib.Core.List.{List, [], _++_, append-nil}
 use native.Mathlib.Omega.{arith}
 use lib.Dec.{ltb}
 use lib.ListN.{length}
-use Rattle.rules.specs.Types.{Cells, Unit, Access, Place, Register, Entry, Due, Ruling, Job}
+use Rattle.rules.specs.Types.{Cells, Unit, Access, Place, Entry, Due, Ruling, Job}
 use Rattle.rules.specs.Memory.{Memory}
 use Rattle.rules.specs.Registers.{placeOf}
 use Rattle.rules.specs.Maps.{unpaged, unpagedAt, pageOf}
 use Rattle.rules.specs.Fetched.{isFetch}
 use Rattle.rules.specs.Steps.{wellShaped, dueOf, oddWord, watches, forbidden}
 use Rattle.rules.specs.Program.{Prog}
-use Rattle.rules.specs.Order.{refused, faulted, outerFault, readIn, readAt, transferred, fetched, wordJudged, unpagedReached, unpagedTimeOut, unpagedTarget, unpagedFrom, windowAddr, innerFault, innerTarget, innerRuled, windowed, pagedReached, outerTarget, outerRuled, pagedFrom, sequenced, afterWait, accessed}
+use Rattle.rules.specs.Order.{refused, faulted, outerFault, Source, at-hand, in-cells, sourceAt, readFrom, readAt, transferred, fetched, wordJudged, unpagedReached, unpagedTimeOut, unpagedTarget, unpagedFrom, windowAddr, innerFault, innerTarget, innerRuled, windowed, pagedReached, outerTarget, outerRuled, pagedFrom, sequenced, afterWait, accessed}
 use Rattle.rules.specs.Calls.{called}
 use Rattle.rules.specs.Runs.{Visit, visit, visitsOf, deedIn, deedOf}
 use Rattle.rules.proofs.Choices.{true-is-not-false, picked}
-use Rattle.rules.proofs.Demand1.{job, outer, outerAt, Keys, Paged, Asked, Granted, Windowed, InnerAsked}
+use Rattle.rules.proofs.Promises.{job, outer}
+use Rattle.rules.proofs.Ways.{outerAt, Keys, Paged, Asked, Granted, Windowed, InnerAsked}
+use Rattle.rules.proofs.PremiseWords.{GoesTo, no-page, one-page, two-pages, GoesBySteps}
 use Rattle.rules.proofs.Determined.{keys-judged}
 use Rattle.rules.proofs.Why.{judged-keys}
-use Rattle.rules.proofs.Demand3.{GoesTo, no-page, one-page, two-pages, GoesBySteps}
 
 -- Where nothing more is asked for ------------------------------------------------------------------------------------------
 
@@ -28,21 +29,14 @@ module _ (m : Memory) (u : Unit) (j : Job) where
   abbrev silent : Prog → Type 0
   silent p = (k : Cells) → visitsOf m (u .maps) p k ≡ []
 
-  readIn-silent : (g : Register) (f : ℕ → Prog) → ((w : ℕ) → silent (f w)) → silent (readIn j g f)
-  unfolding readIn visitsOf
-  readIn-silent Register.Ktmr f h k = h _ k
-  readIn-silent Register.Ktcs f h k = h _ k
-  readIn-silent (Register.Kept i) f h k = h _ k
-  readIn-silent Register.Ktum f h k = h _ k
-  readIn-silent Register.Ktem f h k = h _ k
-  readIn-silent (Register.Pad i) f h k = h _ k
+  readFrom-silent : (s : Source) (f : ℕ → Prog) → ((w : ℕ) → silent (f w)) → silent (readFrom s f)
+  unfolding readFrom visitsOf
+  readFrom-silent (at-hand w) f h k = h w k
+  readFrom-silent (in-cells g) f h k = h _ k
 
   readAt-silent : (at : ℕ) (pl : Place) (f : ℕ → Prog) → ((w : ℕ) → silent (f w)) → silent (readAt m j at pl f)
   unfolding readAt
-  readAt-silent at Place.Memory f h k = h _ k
-  readAt-silent at Place.Window f h k = h _ k
-  readAt-silent at (Place.In g) f h k = readIn-silent g f h k
-  readAt-silent at Place.Nowhere f h k = h _ k
+  readAt-silent at pl f h k = readFrom-silent (sourceAt m j at pl) f h k
 
   transferred-silent : (at : ℕ) (pl : Place) → silent (transferred m j at pl)
   unfolding transferred visitsOf
@@ -171,7 +165,7 @@ module _ (m : Memory) (u : Unit) (q : Access) where
   afterWait-goes Due.Steps e s =
       picked (λ p. GoesTo m u q (visitsOf m (u .maps) p (u .cells))) (unpaged (u .core .ktcs .fcn) (q .state)) _ _ unpagedFrom-goes
       (λ t. pagedFrom-goes (record { steps = record { shaped = s; due = e }; mode = t }))
-  afterWait-goes Due.Late e s = no-page (not-begun e (λ z. let y : _≡_ {A = ℕ} 0 1 = cc in omega arith))
+  afterWait-goes Due.OutOfTurn e s = no-page (not-begun e (λ z. let y : _≡_ {A = ℕ} 0 1 = cc in omega arith))
   afterWait-goes Due.StatusStore e s = no-page (not-begun e (λ z. let y : _≡_ {A = ℕ} 0 1 = cc in omega arith))
   afterWait-goes Due.ProgramCounterStore e s = no-page (not-begun e (λ z. let y : _≡_ {A = ℕ} 0 1 = cc in omega arith))
   afterWait-goes Due.FirstRead e s = no-page (not-begun e (λ z. let y : _≡_ {A = ℕ} 0 1 = cc in omega arith))

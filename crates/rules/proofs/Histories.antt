@@ -15,12 +15,12 @@ use Rattle.rules.specs.Calls.{initOf, called, settled, callOf}
 use Rattle.rules.specs.Answers.{shownAs, shown}
 use Rattle.rules.specs.Runs.{deedIn, deedOf, History, told, inUseAfter, historyAfter, heard}
 use Rattle.rules.proofs.Choices.{true-is-not-false, picked}
-use Rattle.rules.proofs.Demand1.{decided, access, violation}
-use Rattle.rules.proofs.Demand1.{Stores, word-store, byte-store, ktmr-store, ktcs-store, kept-store, ktum-store, ktem-store, pad-store}
-use Rattle.rules.proofs.Demand1.{Does, after-refusal, after-unpaged-time-out, after-fault, after-init, after-interrupt, after-trap, after-sequence, after-read, after-store}
+use Rattle.rules.proofs.Ways.{violation, access, decided}
+use Rattle.rules.proofs.Ways.{Stores, word-store, byte-store, ktmr-store, ktcs-store, kept-store, ktum-store, ktem-store, pad-store}
+use Rattle.rules.proofs.Ways.{Does, after-refusal, after-unpaged-time-out, after-fault, after-init, after-interrupt, after-trap, after-sequence, after-read, after-store}
+use Rattle.rules.proofs.PremiseWords.{StoreDone, Forgets, by-init, by-ktum-store, by-ktem-store, by-fault, Becomes, forgotten, stored-into, stays, HistoryByAnswers}
 use Rattle.rules.proofs.Determined.{determined}
 use Rattle.rules.proofs.Effects.{effects-by-answer}
-use Rattle.rules.proofs.Demand3.{StoreDone, Forgets, by-init, by-ktum-store, by-ktem-store, by-fault, Becomes, forgotten, stored-into, stays, HistoryByAnswers}
 
 -- whether an effect forgets a page, and whether it stores into memory
 abbrev forgetting : ℕ → Effect → Bool

@@ -7,20 +7,22 @@ use Rattle.rules.specs.Choice.{pick}
 use Rattle.rules.specs.Memory.{Memory}
 use Rattle.rules.specs.Unit.{withKtcs, initCore}
 use Rattle.rules.specs.Status.{withModes}
-use Rattle.rules.specs.Sequences.{leftFor, interrupted, trapTwice, trapTaken, trapped}
+use Rattle.rules.specs.Sequences.{serviceAwaited, interrupted, trapTwice, trapTaken, trapped}
 use Rattle.rules.specs.Program.{run}
 use Rattle.rules.specs.Order.{outcome}
 use Rattle.rules.specs.Calls.{initOf, called, mapsAfter, cellsAfter, memoryAfter, settled, callOf}
 use Rattle.rules.proofs.Choices.{picked}
-use Rattle.rules.proofs.Demand1.{Why, interrupt-late, interrupt-taken, unlisted, trap-late, trap-taken, ending, ModesOnly, InterruptKeeps, InterruptLeaves, TrapLeaves, ExecTrapUnchanged, OtherTrapUnchanged, InitLeaves}
+use Rattle.rules.proofs.Promises.{ModesOnly, InterruptKeeps, InterruptLeaves, TrapLeaves, ExecTrapUnchanged, OtherTrapUnchanged, InitLeaves}
+use Rattle.rules.proofs.Ways.{ending, Why, interrupt-late, interrupt-taken, unlisted, trap-late, trap-taken}
 use Rattle.rules.proofs.Why.{why}
 
 -- a core with other modes, and from user mode another wait and fetch memory
 modes-only :
-    (c : Core) (um iu : Bool) (w : Wait) (f : Fetch) → (c .ktcs .um ≡ false → w ≡ c .wait) → (c .ktcs .um ≡ false → f ≡ c .fetch)
+    (c : Core) (um iu : Bool) (w : Wait) (f : Fetch) → (c .ktcs .um ≡ false → um ≡ false) → (c .ktcs .um ≡ false → w ≡ c .wait)
+    → (c .ktcs .um ≡ false → f ≡ c .fetch)
     → ModesOnly c (record { ktcs = withModes (c .ktcs) (c .ktcs .fcn) um iu; kept = c .kept; wait = w; fetch = f })
 unfolding withModes
-modes-only c um iu w f hw hf =
+modes-only c um iu w f hu hw hf =
     record {
       registers = refl;
       fcn = refl;
@@ -31,22 +33,23 @@ modes-only c um iu w f hw hf =
       wv = refl;
       av = refl;
       iv = refl;
+      exec-um = hu;
       exec-wait = hw;
       exec-fetch = hf;
     }
 
 core-same : (c : Core) → ModesOnly c c
 unfolding withModes
-core-same c = modes-only c (c .ktcs .um) (c .ktcs .iu) (c .wait) (c .fetch) (λ e. refl) (λ e. refl)
+core-same c = modes-only c (c .ktcs .um) (c .ktcs .iu) (c .wait) (c .fetch) (λ e. e) (λ e. refl) (λ e. refl)
 
-left-keeps : (c : Core) → c .ktcs .um ≡ true → ModesOnly c (leftFor (c .ktcs) (c .kept))
-unfolding leftFor
-left-keeps c h = modes-only c _ _ _ _ (λ e. absurd (true≢false (cc))) (λ e. absurd (true≢false (cc)))
+left-keeps : (c : Core) → c .ktcs .um ≡ true → ModesOnly c (serviceAwaited (c .ktcs) (c .kept))
+unfolding serviceAwaited
+left-keeps c h = modes-only c _ _ _ _ (λ e. refl) (λ e. absurd (true≢false (cc))) (λ e. absurd (true≢false (cc)))
 
 interrupted-keeps : (c : Core) → ModesOnly c (interrupted c)
 unfolding interrupted withKtcs
 interrupted-keeps c =
-    picked (ModesOnly c) (c .ktcs .um) _ _ (left-keeps c) (λ e. modes-only c _ _ _ _ (λ h. refl) (λ h. refl))
+    picked (ModesOnly c) (c .ktcs .um) _ _ (left-keeps c) (λ e. modes-only c _ _ _ _ (λ h. refl) (λ h. refl) (λ h. refl))
 
 trapped-keeps : (c : Core) (v : ℕ) → ModesOnly c (trapped c v)
 unfolding trapped trapTaken

@@ -9,18 +9,18 @@ use lib.Dec.{eqb}
 use lib.ListN.{getD, set, length-set, length-map, List·getD-map}
 use lib.Seq.{getD-set-other}
 use borrow.Author.Tests.{eqb-true, ne-eqb}
-use Rattle.rules.specs.Types.{Ktcs, Fetch, Core, Maps, Cell, Cells, Access, Found, Walk, Entry, Fault}
+use Rattle.rules.specs.Types.{Ktcs, Fetch, Core, Maps, Cell, Cells, Access, Kind, Found, Walk, Entry, Fault}
 use Rattle.rules.specs.Choice.{pick}
 use Rattle.rules.specs.Memory.{Memory}
 use Rattle.rules.specs.Unit.{emptyCell, withKtcs, withKept, withFetch}
 use Rattle.rules.specs.Status.{withModes, withStates, withFlags, flagsClear}
 use Rattle.rules.specs.Registers.{ktic, ktad, ktdt}
 use Rattle.rules.specs.Maps.{unpaged, execZero, tagOf, cellOf, walkOf, entryOf, filled, filledBy, missed, soughtIn, looked, cellForgotten, forgotten}
-use Rattle.rules.specs.Fetched.{isFetch, counted, normal, statesMarked, instructionNoted, marked, noted}
-use Rattle.rules.specs.Sequences.{leftFor, flagged, startEnded, addressKept, linesKept, faultData, violated, timedOut}
+use Rattle.rules.specs.Fetched.{isFetch, isDato, kindOf, counted, normal, destinationOnly, sourceBy, destinationBy, sourceSet, destinationSet, statesMarked, instructionNoted, marked, noted}
+use Rattle.rules.specs.Sequences.{serviceAwaited, flagged, startEnded, addressKept, linesKept, faultData, violated, timedOut}
 use Rattle.rules.specs.Answers.{shownAs, faultShown}
-use Rattle.rules.proofs.Choices.{picked}
-use Rattle.rules.proofs.Demand1.{StatesOnly, Step4Keeps, Step4Leaves, Step6Keeps, Step6Leaves, TimeOutKeeps, ViolationKeeps, ForgottenKeeps}
+use Rattle.rules.proofs.Choices.{both-true, picked}
+use Rattle.rules.proofs.Promises.{StatesOnly, Step4Keeps, Step4Leaves, Step6Keeps, Step6Leaves, ViolationKeeps, ForgottenKeeps}
 
 -- Step 4 -----------------------------------------------------------------------------------------------------------------
 
@@ -31,11 +31,65 @@ states-only s ss ds = record { fcn = refl; um = refl; iu = refl; rv = refl; pv =
 states-same : (s : Ktcs) → StatesOnly s s
 states-same s = record { fcn = refl; um = refl; iu = refl; rv = refl; pv = refl; wv = refl; av = refl; iv = refl }
 
-statesMarked-keeps : (s : Ktcs) (f : Fetch) (q : Access) → StatesOnly s (statesMarked s f q)
-unfolding statesMarked
-statesMarked-keeps s f q =
-    picked (StatesOnly s) (isFetch q) _ _ (λ e. picked (StatesOnly s) (normal s q) _ _ (λ n. states-only s false false) (λ n. states-same s))
-    (λ e. states-only s _ _)
+-- SS and DS as step 4 moves them: not in FCN 0, and a fetch sets neither
+record StatesMoved (q : Access) (s t : Ktcs) : Type 0 where
+  only : StatesOnly s t
+  fetch-ss : isFetch q ≡ true → s .ss ≡ false → t .ss ≡ false
+  fetch-ds : isFetch q ≡ true → s .ds ≡ false → t .ds ≡ false
+  fcn-zero : s .fcn ≡ 0 → t ≡ s
+
+states-moved :
+    (q : Access) (s : Ktcs) (ss ds : Bool) → (isFetch q ≡ true → (ss ≡ false) × (ds ≡ false)) → (s .fcn ≡ 0 → (ss ≡ s .ss) × (ds ≡ s .ds))
+    → StatesMoved q s (withStates s ss ds)
+unfolding withStates
+states-moved q s ss ds f z =
+    record { only = states-only s ss ds; fetch-ss = λ e n. f e .0; fetch-ds = λ e n. f e .1; fcn-zero = λ e. rw (z e .0, z e .1) }
+
+-- FCN 0 is neither normal nor destination-only paging
+fcn-zero-not-normal : (s : Ktcs) (q : Access) → s .fcn ≡ 0 → (normal s q ≡ false) × (destinationOnly s ≡ false)
+unfolding normal destinationOnly
+fcn-zero-not-normal s q e = (rw e, rw e)
+
+sourceBy-neither : (k : Kind) (dato : Bool) → sourceBy k false false dato ≡ false
+unfolding sourceBy
+sourceBy-neither Kind.Jsr dato = refl
+sourceBy-neither Kind.Rts dato = refl
+sourceBy-neither Kind.Rti dato = refl
+sourceBy-neither Kind.Trap dato = refl
+sourceBy-neither Kind.Privileged dato = refl
+sourceBy-neither Kind.EntryPoint dato = refl
+sourceBy-neither Kind.Other dato = refl
+
+destinationBy-neither : (k : Kind) (dato2 access2 : Bool) → destinationBy k false false dato2 access2 ≡ false
+unfolding destinationBy
+destinationBy-neither Kind.Jsr dato2 access2 = refl
+destinationBy-neither Kind.Rts dato2 access2 = refl
+destinationBy-neither Kind.Rti dato2 access2 = refl
+destinationBy-neither Kind.Trap dato2 access2 = refl
+destinationBy-neither Kind.Privileged dato2 access2 = refl
+destinationBy-neither Kind.EntryPoint dato2 access2 = refl
+destinationBy-neither Kind.Other dato2 access2 = refl
+
+module _ (s : Ktcs) (f : Fetch) (q : Access) where
+  source-unset : s .fcn ≡ 0 → (s .ss || sourceSet s f q) ≡ s .ss
+  unfolding sourceSet
+  source-unset e =
+      let (n, d) = fcn-zero-not-normal s q e in rw (n, d, sourceBy-neither (kindOf (f .newer)) (isDato q), or-false)
+
+  destination-unset : s .fcn ≡ 0 → (s .ds || destinationSet s f q) ≡ s .ds
+  unfolding destinationSet
+  destination-unset e =
+      let (n, d) = fcn-zero-not-normal s q e in
+      rw (n, d, destinationBy-neither (kindOf (f .newer)) (isDato q && eqb (f .datos) 1) (eqb (f .accesses) 1), or-false)
+
+  statesMarked-keeps : StatesMoved q s (statesMarked s f q)
+  unfolding statesMarked
+  statesMarked-keeps =
+      picked (StatesMoved q s) (isFetch q) _ _
+      (λ e. picked (StatesMoved q s) (normal s q) _ _
+      (λ n. states-moved q s false false (λ t. (refl, refl)) (λ z. absurd (true≢false (sym n ∙ fcn-zero-not-normal s q z .0))))
+      (λ n. record { only = states-same s; fetch-ss = λ t z. z; fetch-ds = λ t z. z; fcn-zero = λ z. refl }))
+      (λ e. states-moved q s _ _ (λ t. absurd (true≢false (sym t ∙ e))) (λ z. (source-unset z, destination-unset z)))
 
 -- an unpaged access is none of normal paging
 unpaged-fcn : (fcn state : ℕ) (b : Bool) → eqb fcn 0 ≡ b → unpaged fcn state ≡ true → fcn < 2
@@ -53,13 +107,17 @@ module _ (q : Access) (c : Core) where
   -- another fetch memory, which tells itself from the old one by the counts, and not at all after a fetch
   counts-only :
       (f : Fetch) → f .newer ≡ c .fetch .newer → f .older ≡ c .fetch .older → f .public ≡ c .fetch .public
-      → (isFetch q ≡ true → f ≡ c .fetch) → Step4Keeps q c (withFetch c f)
+      → (isFetch q ≡ true → f ≡ c .fetch) → (isDato q ≡ false → f .datos ≡ c .fetch .datos) → Step4Keeps q c (withFetch c f)
   unfolding withFetch
-  counts-only f n o p u =
+  counts-only f n o p u d =
       record {
         ktcs = states-same (c .ktcs);
         registers = λ i n. refl;
         unpaged-registers = λ e. refl;
+        unfetched-registers = λ e. refl;
+        fetch-ss = λ e z. z;
+        fetch-ds = λ e z. z;
+        fcn-zero = λ e. refl;
         flagged-ktcs = λ e. refl;
         flagged-registers = λ e. refl;
         wait = refl;
@@ -67,23 +125,29 @@ module _ (q : Access) (c : Core) where
         older = o;
         public = p;
         fetch-uncounted = u;
+        datos = d;
       }
 
   counted-keeps : Step4Keeps q c (withFetch c (counted q (c .fetch)))
-  unfolding counted
+  unfolding counted pick
   counted-keeps =
-      picked (λ f. Step4Keeps q c (withFetch c f)) (isFetch q) _ _ (λ e. counts-only _ refl refl refl (λ t. refl))
-      (λ e. counts-only _ refl refl refl (λ t. absurd (true≢false (cc))))
+      picked (λ f. Step4Keeps q c (withFetch c f)) (isFetch q) _ _ (λ e. counts-only _ refl refl refl (λ t. refl) (λ t. refl))
+      (λ e. counts-only _ refl refl refl (λ t. absurd (true≢false (cc))) (λ t. rw t))
 
   -- KTIC is taken in normal paging only, with the flags clear
   instruction-only :
-      (d : Core) → flagsClear (c .ktcs) ≡ true → normal (c .ktcs) q ≡ true → Step4Keeps q c d → Step4Keeps q c (withKept d (set (d .kept) ktic (q .addr)))
+      (d : Core) → flagsClear (c .ktcs) ≡ true → isFetch q ≡ true → normal (c .ktcs) q ≡ true → Step4Keeps q c d
+      → Step4Keeps q c (withKept d (set (d .kept) ktic (q .addr)))
   unfolding withKept
-  instruction-only d clear e h =
+  instruction-only d clear f e h =
       record {
         ktcs = h .ktcs;
         registers = λ i n. rw getD-set-other (h .registers i n);
         unpaged-registers = λ n. let no : normal (c .ktcs) q ≡ false = unpaged-not-normal (c .ktcs) q n in absurd (true≢false (cc));
+        unfetched-registers = λ n. absurd (true≢false (cc));
+        fetch-ss = h .fetch-ss;
+        fetch-ds = h .fetch-ds;
+        fcn-zero = h .fcn-zero;
         flagged-ktcs = h .flagged-ktcs;
         flagged-registers = λ n. absurd (true≢false (cc));
         wait = h .wait;
@@ -91,16 +155,21 @@ module _ (q : Access) (c : Core) where
         older = h .older;
         public = h .public;
         fetch-uncounted = h .fetch-uncounted;
+        datos = h .datos;
       }
 
   status-keeps :
-      (d : Core) (s : Ktcs) → flagsClear (c .ktcs) ≡ true → StatesOnly (c .ktcs) s → Step4Keeps q c d → Step4Keeps q c (withKtcs d s)
+      (d : Core) (s : Ktcs) → flagsClear (c .ktcs) ≡ true → StatesMoved q (c .ktcs) s → Step4Keeps q c d → Step4Keeps q c (withKtcs d s)
   unfolding withKtcs
   status-keeps d s clear t h =
       record {
-        ktcs = t;
+        ktcs = t .only;
         registers = h .registers;
         unpaged-registers = h .unpaged-registers;
+        unfetched-registers = h .unfetched-registers;
+        fetch-ss = t .fetch-ss;
+        fetch-ds = t .fetch-ds;
+        fcn-zero = t .fcn-zero;
         flagged-ktcs = λ n. absurd (true≢false (cc));
         flagged-registers = h .flagged-registers;
         wait = h .wait;
@@ -108,6 +177,7 @@ module _ (q : Access) (c : Core) where
         older = h .older;
         public = h .public;
         fetch-uncounted = h .fetch-uncounted;
+        datos = h .datos;
       }
 
 pub step4-leaves : Step4Leaves
@@ -116,7 +186,7 @@ step4-leaves c q =
     picked (Step4Keeps q c) (flagsClear (c .ktcs)) _ _
     (λ e. status-keeps q c _ _ e (statesMarked-keeps (c .ktcs) (c .fetch) q)
     (picked (Step4Keeps q c) (isFetch q && normal (c .ktcs) q) _ _
-    (λ n. instruction-only q c _ e (and-eq-true-iff (isFetch q) (normal (c .ktcs) q) .0 n .1) (counted-keeps q c)) (λ n. counted-keeps q c)))
+    (λ n. let (f, p) = both-true (isFetch q) (normal (c .ktcs) q) n in instruction-only q c _ e f p (counted-keeps q c)) (λ n. counted-keeps q c)))
     (λ e. counted-keeps q c)
 
 -- Step 6 -----------------------------------------------------------------------------------------------------------------
@@ -168,25 +238,17 @@ inner-lines-keep : (kept : List ℕ) (window : Bool) (a d : ℕ) → window ≡ 
 unfolding linesKept addressKept pick
 inner-lines-keep kept window a d e = let n : ktad ≢ ktdt = omega arith in rw (e, getD-set-other)
 
-pub timed-out-keeps :
-    (c : Core) (q : Access) → unpaged (c .ktcs .fcn) (q .state) ≡ true → TimeOutKeeps q c (timedOut (noted c q) q)
+-- a time-out of an unpaged access leaves every register but KTAD and KTDT
+pub timed-out-registers :
+    (c : Core) (q : Access) → unpaged (c .ktcs .fcn) (q .state) ≡ true → (i : ℕ) → i ≢ ktad → i ≢ ktdt
+    → getD (timedOut (noted c q) q .kept) i 0 ≡ getD (c .kept) i 0
 unfolding timedOut withKept
-timed-out-keeps c q e =
-    let h : Step4Keeps q c (noted c q) = step4-leaves c q in
-    record {
-      ktcs = refl;
-      states = h .ktcs;
-      registers = λ i n₁ n₂. lines-keep (noted c q .kept) false _ _ i n₁ n₂ ∙ rw (h .unpaged-registers e);
-      wait = h .wait;
-      fetch = refl;
-      newer = h .newer;
-      older = h .older;
-      public = h .public;
-    }
+timed-out-registers c q e i n₁ n₂ = lines-keep (noted c q .kept) false _ _ i n₁ n₂ ∙ rw (step4-leaves c q .unpaged-registers e)
 
 -- KTCS but for the flags, of which the fault's own is set
 record FlagsOnly (f : Fault) (s t : Ktcs) : Type 0 where
   fcn : t .fcn ≡ s .fcn
+  um : t .um ≡ s .um
   ss : t .ss ≡ s .ss
   ds : t .ds ≡ s .ds
   av : t .av ≡ (s .av || eqb (faultShown f .number) 4)
@@ -213,10 +275,10 @@ flagged-sets s (Fault.Forbidden w at) = simp (or-true, or-false)
 flagged-keeps : (s : Ktcs) (f : Fault) → FlagsOnly f s (flagged s f)
 unfolding withFlags
 flagged-keeps s f =
-    rw flagged-sets (record { fcn = refl; ss = refl; ds = refl; av = refl; rv = refl; wv = refl; pv = refl; iv = refl })
+    rw flagged-sets (record { fcn = refl; um = refl; ss = refl; ds = refl; av = refl; rv = refl; wv = refl; pv = refl; iv = refl })
 
 pub violated-keeps : (c : Core) (q : Access) (window : Bool) (f : Fault) → ViolationKeeps q window f c (violated (noted c q) q window f)
-unfolding violated leftFor startEnded withModes pick
+unfolding violated serviceAwaited startEnded withModes pick
 violated-keeps c q window f =
     let h : Step4Keeps q c (noted c q) = step4-leaves c q in
     let s : FlagsOnly f (startEnded (noted c q .ktcs)) (flagged (startEnded (noted c q .ktcs)) f) = flagged-keeps (startEnded (noted c q .ktcs)) f in
@@ -224,6 +286,9 @@ violated-keeps c q window f =
     lines-keep (noted c q .kept) window (q .addr) (faultData q f) in
     record {
       fcn = λ e. s .fcn ∙ rw (h .ktcs .fcn, e);
+      fcn-three = λ e. s .fcn ∙ rw (h .ktcs .fcn, e);
+      um = refl;
+      iu = s .um ∙ h .ktcs .um;
       ss = s .ss;
       ds = s .ds;
       rv = s .rv ∙ rw (h .ktcs .rv);
@@ -235,6 +300,8 @@ violated-keeps c q window f =
       registers = λ i n n₁ n₂. lines i n₁ n₂ ∙ h .registers i n;
       inner-address =
           λ e. inner-lines-keep (noted c q .kept) window (q .addr) (faultData q f) e ∙ h .registers ktad (omega arith);
+      wait = refl;
+      fetch = refl;
     }
 
 -- The emptying of a cell -------------------------------------------------------------------------------------------------

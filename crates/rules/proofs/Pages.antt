@@ -6,11 +6,11 @@ use native.Mathlib.Omega.{arith}
 use lib.Dec.{ltb}
 use borrow.Author.Tests.{eqb-true, eqb-false, ne-eqb, ltb-true, ltb-false}
 use Rattle.rules.specs.Choice.{pick}
-use Rattle.rules.specs.Maps.{pageOf, execZero, looked, tagOf}
-use Rattle.rules.proofs.Demand3.{ExecZeroUncelled}
+use Rattle.rules.specs.Maps.{pageOf, execZero, looked, tagOf, high7}
+use Rattle.rules.proofs.Promises.{ExecZeroUncelled}
 
 pub pageOf-below : (a : ℕ) → pageOf a < 128
-unfolding pageOf
+unfolding pageOf high7
 pageOf-below a = omega arith
 
 pub tagOf-below : (user : Bool) (p : ℕ) → p < 128 → tagOf user p < 256

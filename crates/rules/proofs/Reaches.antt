@@ -14,15 +14,16 @@ use Rattle.rules.specs.Fetched.{isFetch}
 use Rattle.rules.specs.Steps.{wellShaped, dueOf, oddWord, watches, forbidden}
 use Rattle.rules.specs.Sequences.{vectorListed, idle}
 use Rattle.rules.specs.Program.{Prog, run}
-use Rattle.rules.specs.Order.{outcome, refused, faulted, outerFault, readIn, readAt, registerEffect, memoryEffect, storedAt, transferred, fetched, wordJudged, unpagedReached, unpagedTimeOut, unpagedTarget, unpagedFrom, windowAddr, innerFault, innerTarget, innerRuled, windowed, pagedReached, outerTarget, outerRuled, pagedFrom, sequenced, afterWait, accessed}
+use Rattle.rules.specs.Order.{outcome, refused, faulted, outerFault, sourceIn, sourceAt, readFrom, readAt, registerEffect, memoryEffect, storedAt, transferred, fetched, wordJudged, unpagedReached, unpagedTimeOut, unpagedTarget, unpagedFrom, windowAddr, innerFault, innerTarget, innerRuled, windowed, pagedReached, outerTarget, outerRuled, pagedFrom, sequenced, afterWait, accessed}
 use Rattle.rules.specs.Calls.{interruptOf, trapOf, initOf, called, settled, callOf}
 use Rattle.rules.specs.Answers.{shownAs, faultShown, shown}
 use Rattle.rules.specs.Runs.{visitsOf, peeks, storesPad, deedIn, deedOf}
 use Rattle.rules.proofs.Choices.{picked}
-use Rattle.rules.proofs.Demand1.{job, outerAt, innerAt, Keys, off-map, not-resident, not-writable, not-public, There, memory, register}
+use Rattle.rules.proofs.Promises.{job}
+use Rattle.rules.proofs.Ways.{outerAt, innerAt, Keys, off-map, not-resident, not-writable, not-public, There, memory, register}
+use Rattle.rules.proofs.PremiseWords.{inCells, placeAt, ReachesByAnswer, OthersGoNowhere}
 use Rattle.rules.proofs.Why.{judged-keys}
 use Rattle.rules.proofs.Effects.{fetch-reads}
-use Rattle.rules.proofs.Demand3.{inCells, placeAt, ReachesByAnswer, OthersGoNowhere}
 
 -- What a program reaches, by the place of its answer's physical address --------------------------------------------------------
 
@@ -43,8 +44,8 @@ module _ (m : Memory) (u : Unit) (op : ℕ) where
     unshown : (w : ℕ) (k : Cells) → inCells op (placeOf (length m) at) ≡ false → Reached (f w) k
     unshown w k e = rw (h w k .peeks-none, h w k .stores-none, h w k .physical) (sym e)
 
-    readIn-reached : (g : Register) (k : Cells) → placeOf (length m) at ≡ Place.In g → Reached (readIn j g f) k
-    unfolding readIn peeks run
+    readIn-reached : (g : Register) (k : Cells) → placeOf (length m) at ≡ Place.In g → Reached (readFrom (sourceIn j g) f) k
+    unfolding sourceIn readFrom peeks run
     readIn-reached Register.Ktmr k e = rw (h _ k .physical, e) (sym reads)
     readIn-reached Register.Ktcs k e = unshown _ k (rw e)
     readIn-reached (Register.Kept i) k e = unshown _ k (rw e)
@@ -53,7 +54,7 @@ module _ (m : Memory) (u : Unit) (op : ℕ) where
     readIn-reached (Register.Pad i) k e = rw (h _ k .physical, e)
 
     readAt-reached : (pl : Place) (k : Cells) → placeOf (length m) at ≡ pl → There pl → Reached (readAt m j at pl f) k
-    unfolding readAt
+    unfolding sourceAt readFrom readAt
     readAt-reached pl k e memory = unshown _ k (rw e)
     readAt-reached pl k e (register {g}) = readIn-reached g k e
 
@@ -180,7 +181,7 @@ module _ (m : Memory) (u : Unit) (q : Access) (shaped : wellShaped (length m) q 
   unfolding afterWait refused sequenced peeks run outcome storesPad shown shownAs
   afterWait-reached Due.Steps k =
       picked (reached k) (unpaged (u .core .ktcs .fcn) (q .state)) _ _ (λ t. unpagedFrom-reached k) (λ t. pagedFrom-reached k)
-  afterWait-reached Due.Late k = refl
+  afterWait-reached Due.OutOfTurn k = refl
   afterWait-reached Due.StatusStore k = refl
   afterWait-reached Due.ProgramCounterStore k = refl
   afterWait-reached Due.FirstRead k = refl

@@ -11,7 +11,7 @@ use Rattle.rules.specs.Calls.{After, callOf, fresh}
 use Rattle.rules.specs.Runs.{stationAfter}
 use Rattle.rules.proofs.Opened.{opened}
 use Rattle.rules.proofs.Worked.{A}
-use Rattle.rules.proofs.Demand1.{numberOf}
+use Rattle.rules.proofs.Promises.{numberOf}
 use Rattle.rules.proofs.Premises.{memory, pagingOn, readPage}
 
 -- a program in the unit's place: what it makes of memory, unit and call

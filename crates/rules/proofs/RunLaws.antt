@@ -8,7 +8,7 @@ use Rattle.rules.specs.Memory.{Memory}
 use Rattle.rules.specs.Registers.{peeked}
 use Rattle.rules.specs.Maps.{looked}
 use Rattle.rules.specs.Program.{Prog, done, ask, peek, run}
-use Rattle.rules.specs.Order.{readIn, readAt, wordIn, wordRead}
+use Rattle.rules.specs.Order.{Source, at-hand, in-cells, sourceAt, readFrom, readAt, wordFrom, wordRead}
 
 pub run-done : (m : Memory) (r : Maps) (o : Outcome) (k : Cells) → run m r (done o) k ≡ record { outcome = o; cells = k }
 unfolding run
@@ -31,22 +31,14 @@ unfolding pick
 run-pick m r true p q k = refl
 run-pick m r false p q k = refl
 
-pub run-readIn :
-    (m : Memory) (r : Maps) (j : Job) (g : Register) (f : ℕ → Prog) (k : Cells)
-    → run m r (readIn j g f) k ≡ run m r (f (wordIn j k g)) k
-unfolding readIn wordIn run
-run-readIn m r j Register.Ktmr f k = refl
-run-readIn m r j Register.Ktcs f k = refl
-run-readIn m r j (Register.Kept i) f k = refl
-run-readIn m r j Register.Ktum f k = refl
-run-readIn m r j Register.Ktem f k = refl
-run-readIn m r j (Register.Pad i) f k = refl
+run-readFrom :
+    (m : Memory) (r : Maps) (s : Source) (f : ℕ → Prog) (k : Cells) → run m r (readFrom s f) k ≡ run m r (f (wordFrom k s)) k
+unfolding readFrom wordFrom run
+run-readFrom m r (at-hand w) f k = refl
+run-readFrom m r (in-cells g) f k = refl
 
 pub run-readAt :
     (m : Memory) (r : Maps) (j : Job) (at : ℕ) (pl : Place) (f : ℕ → Prog) (k : Cells)
     → run m r (readAt m j at pl f) k ≡ run m r (f (wordRead m j k at pl)) k
 unfolding readAt wordRead
-run-readAt m r j at Place.Memory f k = refl
-run-readAt m r j at Place.Window f k = refl
-run-readAt m r j at (Place.In g) f k = run-readIn m r j g f k
-run-readAt m r j at Place.Nowhere f k = refl
+run-readAt m r j at pl f k = run-readFrom m r (sourceAt m j at pl) f k

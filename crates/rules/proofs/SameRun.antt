@@ -1,17 +1,16 @@
 -- On the premises a run is that of the unit with no cells, and leaves cells that are true.
+use Prim.Native.Nat.{ℕ, _<_}
 use mathlib.Core.Path.{_≡_, refl, sym, ap, ap₂, subst, _∙_}
 use mathlib.Core.Bool.{Bool, true, false, not, _&&_}
-use mathlib.Core.List.{List, [], _∷_, _++_, map}
+use mathlib.Core.List.{List, [], _∷_, _++_}
 use borrow.Author.Tests.{not-true}
 use Rattle.rules.specs.Types.{Maps, Cells, Unit, Call, Entry, Outcome}
 use Rattle.rules.specs.Memory.{Memory}
-use Rattle.rules.specs.Unit.{cellCount, zeroUnit}
-use Rattle.rules.specs.Choice.{pick}
-use Rattle.rules.specs.Registers.{foundFrom, wordsFrom, registers, registerOf, registerFound, registerWord}
+use Rattle.rules.specs.Unit.{zeroUnit}
 use Rattle.rules.specs.Maps.{looked}
 use Rattle.rules.specs.Program.{Prog, run, plainRun}
 use Rattle.rules.specs.Order.{outcome}
-use Rattle.rules.specs.Calls.{called, initOf, cellsAfter, settled, callOf, fresh}
+use Rattle.rules.specs.Calls.{called, initOf, cellsAfter, settled, callOf, freshWith}
 use Rattle.rules.specs.Runs.{Seen, seenIn, seenAlong, stationAfter, plainOf, plainDecision, plainSettled, plainCall, plainIn, plainAlong, visit, visitsOf, peeks, storesPad, deedIn, deedOf, History, noneInUse, inUseAfter, heard, noneOutdated, allowed, meets, historyOf}
 use Rattle.rules.proofs.Choices.{true-is-not-false, both-true, both-false}
 use Rattle.rules.proofs.Visits.{inUseAfter-append, noneOutdated-left, noneOutdated-right, noneOutdated-inUseAfter}
@@ -21,7 +20,7 @@ use Rattle.rules.proofs.Endings.{Ending, call-ends}
 use Rattle.rules.proofs.Sound.{Sound, asked, effect-sound, emptied-sound}
 use Rattle.rules.proofs.Pages.{pageBy, nonzero-tag}
 use Rattle.rules.proofs.Wellformed.{fresh-fit, station-fit}
-use Rattle.rules.proofs.Demand3.{hostHas, CellsTrue, PrefixesMeet, CellsTrueThroughout, SameAsPlain, SameToTheHost, RegistersByAddress}
+use Rattle.rules.proofs.Promises.{CellsTrueAt, CellsTrueThroughout, SameAsPlain}
 
 -- One call -------------------------------------------------------------------------------------------------------------------------
 
@@ -100,15 +99,18 @@ meets-prefix m u h (c ∷ cs) ds e =
     ap₂ (λ (x y : Bool). x && y) a (meets-prefix _ _ _ cs ds b)
 
 -- before the first call no page is in use, and all cells are empty
-fresh-sound : (m : Memory) → Sound m (fresh .maps) (fresh .cells) noneInUse
-unfolding fresh callOf settled run called initOf outcome cellsAfter noneInUse
-fresh-sound m = emptied-sound m (fresh .maps) (zeroUnit cellCount .cells)
+fresh-sound : (n : ℕ) (m : Memory) → Sound m (freshWith n .maps) (freshWith n .cells) noneInUse
+unfolding freshWith callOf settled run called initOf outcome cellsAfter noneInUse
+fresh-sound n m = emptied-sound m (freshWith n .maps) (zeroUnit n .cells)
 
 -- Demand 3, second part --------------------------------------------------------------------------------------------------------------
 
-pub cells-true : CellsTrue
-cells-true m cs e i z n =
-    let p = pageBy _ (station-fit m fresh cs fresh-fit .cells .tags i) in
+-- at the end of a run, and so after each of its calls
+cells-true :
+    (n : ℕ) → 0 < n → (m : Memory) (cs : List Call) → meets m (freshWith n) noneInUse cs ≡ true
+    → CellsTrueAt (stationAfter m (freshWith n) cs) (historyOf m (freshWith n) noneInUse cs)
+cells-true n some m cs e i z o =
+    let p = pageBy _ (station-fit m (freshWith n) cs (fresh-fit n some) .cells .tags i) in
     record {
       user = p .user;
       page = p .page;
@@ -116,22 +118,12 @@ cells-true m cs e i z n =
       tag = p .same;
       word =
           held-true
-          (run-sound m fresh noneInUse cs (fresh-sound m) e .held i (p .user) (p .page) (p .below)
-          (nonzero-tag (p .user) (p .page) (λ o. z (p .same ∙ o))) (p .same)) (rw (p .same) at n);
+          (run-sound m (freshWith n) noneInUse cs (fresh-sound n m) e .held i (p .user) (p .page) (p .below)
+          (nonzero-tag (p .user) (p .page) (λ t. z (p .same ∙ t))) (p .same)) (rw (p .same) at o);
     }
 
-pub prefixes-meet : PrefixesMeet
-prefixes-meet m cs ds e = meets-prefix m fresh noneInUse cs ds e
-
 pub cells-true-throughout : CellsTrueThroughout
-cells-true-throughout m cs ds e = cells-true m cs (prefixes-meet m cs ds e)
+cells-true-throughout n some m cs ds e = cells-true n some m cs (meets-prefix m (freshWith n) noneInUse cs ds e)
 
 pub same-as-plain : SameAsPlain
-same-as-plain m cs e = run-same m fresh noneInUse cs (fresh-sound m) e
-
-pub same-to-the-host : SameToTheHost
-same-to-the-host m cs e = ap (map hostHas) (same-as-plain m cs e)
-
-pub registers-by-address : RegistersByAddress
-unfolding registerWord registerFound registerOf foundFrom wordsFrom registers pick
-registers-by-address c r = (refl, refl)
+same-as-plain n m cs e = run-same m (freshWith n) noneInUse cs (fresh-sound n m) e

@@ -18,7 +18,7 @@ use Rattle.rules.proofs.Pages.{same-user, same-page, tag-other}
 use Rattle.rules.proofs.Uses.{Live, Held, used-live, used-held, held-used, held-true, struck-live, struck-held}
 use Rattle.rules.proofs.Always.{EvenStore}
 use Rattle.rules.proofs.CellsLaws.{empty-tag, found-has-tag, cell-emptied, cell-forgotten}
-use Rattle.rules.proofs.Demand3.{cellAt}
+use Rattle.rules.proofs.Promises.{cellAt}
 
 -- every page's use agrees with its walk
 abbrev AllLive : Memory → Maps → History → Type 0

@@ -1,7 +1,7 @@
 -- The numbers that document 01 marks *, a row each of one table, proved once of the definitions by computation.
 use Prim.Native.Nat.{ℕ}
 use mathlib.Core.Path.{_≡_, refl}
-use mathlib.Core.Bool.{Bool, true, false}
+use mathlib.Core.Bool.{true, false}
 use mathlib.Core.List.{List, [], _∷_, map}
 use lib.ListN.{replicate}
 use Rattle.rules.specs.Types.{Maps, Cells, Access, Call, Entry, Answer}

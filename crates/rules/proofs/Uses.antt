@@ -5,8 +5,9 @@ use Prim.Native.Nat.{ℕ}
 use native.Mathlib.Omega.{arith}
 use Rattle.rules.specs.Types.{Walk, Entry}
 use Rattle.rules.specs.Memory.{evenOf}
+use Rattle.rules.specs.Registers.{among}
 use Rattle.rules.specs.Maps.{readsOf, entryOf}
-use Rattle.rules.specs.Runs.{Use, unused, inUse, outdated, usedBy, among, struck, isOutdated}
+use Rattle.rules.specs.Runs.{Use, unused, inUse, outdated, usedBy, struck, isOutdated}
 use Rattle.rules.proofs.Choices.{true-is-not-false, picked}
 use Rattle.rules.proofs.Walks.{Spared}
 

@@ -1,6 +1,7 @@
 -- A store into memory leaves every walk that read none of its bytes.
-use mathlib.Core.Path.{_≡_, refl, ap, ap₂, _∙_}
-use mathlib.Core.Bool.{Bool, true, false, _||_}
+use mathlib.Core.Path.{_≡_, refl, sym, ap, ap₂, _∙_}
+use mathlib.Core.Bool.{Bool, true, false}
+use mathlib.Core.List.{[], _∷_}
 use Prim.Native.Nat.{ℕ, _+_, _*_, _/_, _%_}
 use native.Mathlib.Omega.{arith}
 use lib.Dec.{eqb, ltb}
@@ -10,9 +11,10 @@ use borrow.Author.Tests.{eqb-false}
 use Rattle.rules.specs.Types.{Maps, Walk, Entry}
 use Rattle.rules.specs.Choice.{pick}
 use Rattle.rules.specs.Memory.{Memory, byteAt, wordAt, evenOf, storeWord, storeByte}
-use Rattle.rules.specs.Maps.{low9, high7, simple, upperAt, lowerAt, pointedAt, wordWalk, followed, pointerWalk, execWalk, userWalk, walkOf, readsOf, entryOf}
-use Rattle.rules.specs.Runs.{among}
+use Rattle.rules.specs.Registers.{among}
+use Rattle.rules.specs.Maps.{low9, high7, simple, upperAt, lowerAt, pointedAt, unlessOff, wordWalk, followed, pointerWalk, execWalk, userWalk, walkOf, readsOf, entryOf}
 use Rattle.rules.proofs.Choices.{both-false}
+use Rattle.rules.proofs.SearchLaws.{among-first}
 
 -- two memories that differ at most in the word at this even address
 pub record DifferAt (e : ℕ) (m n : Memory) : Type 0 where
@@ -68,19 +70,19 @@ Spared e w w₁ = (v : ℕ) → entryOf w ≡ Entry.Mapped v → among e (readsO
 
 module _ (e : ℕ) (m n : Memory) (d : DifferAt e m n) where
   wordWalk-spared : (at : ℕ) → at % 2 ≡ 0 → Spared e (wordWalk m at) (wordWalk n at)
-  unfolding wordWalk readsOf among pick
+  unfolding wordWalk unlessOff readsOf pick
   wordWalk-spared at even v f h = rw (d .lengths) (go (ltb at (length m)) h)
     where
       go :
           (t : Bool) → among e (readsOf (pick t (Walk.Direct (wordAt m at) at) Walk.Off)) ≡ false
           → pick t (Walk.Direct (wordAt n at) at) Walk.Off ≡ pick t (Walk.Direct (wordAt m at) at) Walk.Off
-      go true h = ap (λ (w : ℕ). Walk.Direct w at) (d .others at even (eqb-false e at (both-false _ _ h .0)))
+      go true h = ap (λ (w : ℕ). Walk.Direct w at) (d .others at even (eqb-false e at (both-false _ _ (sym (among-first e at []) ∙ h) .0)))
       go false h = refl
 
   followed-spared :
       (from at v : ℕ) → from % 2 ≡ 0 → at % 2 ≡ 0 → entryOf (followed m from at) ≡ Entry.Mapped v
       → among e (readsOf (followed m from at)) ≡ false → (wordAt n from ≡ wordAt m from) × (followed n from at ≡ followed m from at)
-  unfolding followed readsOf entryOf among pick
+  unfolding followed unlessOff readsOf entryOf pick
   followed-spared from at v even even₁ f h = rw (d .lengths) (go (ltb at (length m)) f h)
     where
       go :
@@ -88,14 +90,14 @@ module _ (e : ℕ) (m n : Memory) (d : DifferAt e m n) where
           → among e (readsOf (pick t (Walk.Pointed (wordAt m at) from at) Walk.Off)) ≡ false
           → (wordAt n from ≡ wordAt m from) × (pick t (Walk.Pointed (wordAt n at) from at) Walk.Off ≡ pick t (Walk.Pointed (wordAt m at) from at) Walk.Off)
       go true f h =
-          let (k, k₁) = both-false (eqb e from) (eqb e at || false) h in (
+          let (k, k₁) = both-false (eqb e from) _ (sym (among-first e from (at ∷ [])) ∙ h) in (
             d .others from even (eqb-false e from k),
-            ap (λ (w : ℕ). Walk.Pointed w from at) (d .others at even₁ (eqb-false e at (both-false (eqb e at) false k₁ .0))),
+            ap (λ (w : ℕ). Walk.Pointed w from at) (d .others at even₁ (eqb-false e at (both-false _ _ (sym (among-first e at []) ∙ k₁) .0))),
           )
       go false f h = (cc, refl)
 
   pointerWalk-spared : (from : ℕ) → from % 2 ≡ 0 → Spared e (pointerWalk m from) (pointerWalk n from)
-  unfolding pointerWalk pick
+  unfolding pointerWalk unlessOff pick
   pointerWalk-spared from even v f h = rw (d .lengths) (go (ltb from (length m)) f h)
     where
       go :

@@ -10,12 +10,12 @@ use lib.ListN.{length, getD, set, length-set, length-map, length-replicate}
 use borrow.Author.Tests.{eqb-false, ltb-true}
 use Rattle.rules.specs.Types.{Maps, Cell, Cells, Unit, Call, Found, Part, Walk, Effect, Outcome, Looked}
 use Rattle.rules.specs.Memory.{Memory}
-use Rattle.rules.specs.Unit.{cellCount, zeroUnit, emptyCell, emptied}
+use Rattle.rules.specs.Unit.{zeroUnit, emptyCell, emptied}
 use Rattle.rules.specs.Registers.{cellStored, padStored}
 use Rattle.rules.specs.Maps.{execZero, walkOf, tagOf, tagIn, cellOf, stepped, filled, filledBy, missed, soughtIn, looked, cellForgotten, forgotten}
 use Rattle.rules.specs.Program.{Prog, run}
 use Rattle.rules.specs.Order.{outcome}
-use Rattle.rules.specs.Calls.{called, initOf, cellsAfter, settled, callOf, fresh}
+use Rattle.rules.specs.Calls.{called, initOf, cellsAfter, settled, callOf, freshWith}
 use Rattle.rules.specs.Runs.{Turn, unitAfter, stationAfter}
 use Rattle.rules.proofs.Choices.{picked}
 use Rattle.rules.proofs.Lists.{getD-set-either, set-cases}
@@ -24,7 +24,7 @@ use Rattle.rules.proofs.CellsLaws.{empty-tag, missing-has-none, cell-em
 use Rattle.rules.proofs.CoreLaws.{initCore-fits}
 use Rattle.rules.proofs.Always.{Always, ends, asks, peeks-at}
 use Rattle.rules.proofs.Endings.{Ending, call-ends}
-use Rattle.rules.proofs.Demand3.{cellAt, CellsFit, UnitFit, AlwaysFit}
+use Rattle.rules.proofs.Promises.{cellAt, CellsFit, UnitFit, AlwaysFit}
 
 -- One cell -------------------------------------------------------------------------------------------------------------------------
 
@@ -201,25 +201,25 @@ module _ (n : ℕ) where
   run-fit P m r (peeks-at a) k h = run-fit P m r (a _) k h
 
 -- what a call leaves of a unit that is as it must be
-pub call-fit : (m : Memory) (u : Unit) (c : Call) → UnitFit u → UnitFit (callOf m u c .reply .unit)
+pub call-fit : {n : ℕ} (m : Memory) (u : Unit) (c : Call) → UnitFit n u → UnitFit n (callOf m u c .reply .unit)
 unfolding callOf settled
 call-fit m u c h =
     let (e, k) = run-fit _ (Ending (u .core)) m (u .maps) (call-ends (u .core) m (u .maps) c) (u .cells) (h .cells) in
     record { core = e .fits (h .core); cells = effect-fit _ _ k _ }
 
-pub fresh-fit : UnitFit fresh
-unfolding fresh callOf settled run called initOf outcome cellsAfter zeroUnit emptied
-fresh-fit = record { core = initCore-fits _; cells = emptied-fit cellCount (zeroUnit cellCount .cells) refl (omega arith) }
+pub fresh-fit : (n : ℕ) → 0 < n → UnitFit n (freshWith n)
+unfolding freshWith callOf settled run called initOf outcome cellsAfter zeroUnit emptied
+fresh-fit n some = record { core = initCore-fits _; cells = emptied-fit n (zeroUnit n .cells) (length-replicate n emptyCell) some }
 
-pub station-fit : (m : Memory) (u : Unit) (cs : List Call) → UnitFit u → UnitFit (stationAfter m u cs .unit)
+pub station-fit : {n : ℕ} (m : Memory) (u : Unit) (cs : List Call) → UnitFit n u → UnitFit n (stationAfter m u cs .unit)
 unfolding stationAfter
 station-fit m u [] h = h
 station-fit m u (c ∷ cs) h = station-fit _ _ cs (call-fit m u c h)
 
-turns-fit : (ts : List Turn) (u : Unit) → UnitFit u → UnitFit (unitAfter u ts)
+turns-fit : {n : ℕ} (ts : List Turn) (u : Unit) → UnitFit n u → UnitFit n (unitAfter u ts)
 unfolding unitAfter
 turns-fit [] u h = h
 turns-fit (t ∷ ts) u h = turns-fit ts _ (call-fit (t .memory) u (t .call) h)
 
 pub always-fit : AlwaysFit
-always-fit ts = turns-fit ts fresh fresh-fit
+always-fit n some ts = turns-fit ts (freshWith n) (fresh-fit n some)

@@ -17,11 +17,12 @@ use Rattle.rules.specs.Order.{outcome, refused, faulted, outerFault, wor
 use Rattle.rules.specs.Calls.{interruptOf, trapOf, initOf, called, callOf}
 use Rattle.rules.proofs.Choices.{picked}
 use Rattle.rules.proofs.RunLaws.{run-readAt}
-use Rattle.rules.proofs.Demand1.{job, outer, inner, outerAt, innerAt, locked, hidden, Keys, off-map, not-resident, not-writable, not-public, granted, exec-zero, memory, register, Transfer, read, store}
-use Rattle.rules.proofs.Demand1.{Begun, Unpaged, UnpagedThere, Paged, Asked, Granted, PagedThere, Windowed, InnerAsked, InnerGranted}
-use Rattle.rules.proofs.Demand1.{odd, keys-refuse, nowhere, window-by-fetch, forbidden-word, inner-odd, inner-keys-refuse, inner-nowhere, window-on-window}
-use Rattle.rules.proofs.Demand1.{Way, misshapen, late, status-stored, program-counter-stored, first-read, second-read, unpaged-odd, unpaged-nowhere, unpaged-window, unpaged-fetch, unpaged-transfer, violation, fetch, transfer, inner-transfer}
-use Rattle.rules.proofs.Demand1.{Why, access, interrupt-late, interrupt-taken, unlisted, trap-late, trap-taken, init, decided, CarriedOut, Explained}
+use Rattle.rules.proofs.Promises.{job, outer, inner}
+use Rattle.rules.proofs.Ways.{outerAt, innerAt, locked, hidden, Keys, off-map, not-resident, not-writable, not-public, granted, exec-zero, memory, register, Transfer, read, store}
+use Rattle.rules.proofs.Ways.{Begun, Unpaged, UnpagedThere, Paged, Asked, Granted, PagedThere, Windowed, InnerAsked, InnerGranted}
+use Rattle.rules.proofs.Ways.{odd, keys-refuse, nowhere, window-by-fetch, forbidden-word, inner-odd, inner-keys-refuse, inner-nowhere, window-on-window}
+use Rattle.rules.proofs.Ways.{Way, misshapen, late, status-stored, program-counter-stored, first-read, second-read, unpaged-odd, unpaged-nowhere, unpaged-window, unpaged-fetch, unpaged-transfer, violation, fetch, transfer, inner-transfer}
+use Rattle.rules.proofs.Ways.{Why, access, interrupt-late, interrupt-taken, unlisted, trap-late, trap-taken, init, decided, CarriedOut, Explained}
 
 -- Steps 6 to 9 -----------------------------------------------------------------------------------------------------------
 
@@ -143,7 +144,7 @@ module _ (m : Memory) (u : Unit) where
     afterWait-ends Due.Steps e s =
         picked (ends (u .cells)) (unpaged (u .core .ktcs .fcn) (q .state)) _ _ (unpagedFrom-ends (record { shaped = s; due = e }))
         (λ t. pagedFrom-ends (record { steps = record { shaped = s; due = e }; mode = t }))
-    afterWait-ends Due.Late e s = late s e
+    afterWait-ends Due.OutOfTurn e s = late s e
     afterWait-ends Due.StatusStore e s = status-stored s e
     afterWait-ends Due.ProgramCounterStore e s = program-counter-stored s e
     afterWait-ends Due.FirstRead e s = first-read s e

@@ -9,7 +9,7 @@ use Rattle.rules.specs.Status.{packed}
 use Rattle.rules.specs.Answers.{shown}
 use Rattle.rules.specs.Calls.{fresh}
 use Rattle.rules.specs.Maps.{tagIn}
-use Rattle.rules.specs.Runs.{Seen, Station, seenAlong, stationAfter}
+use Rattle.rules.specs.Runs.{Seen, seenAlong, stationAfter}
 use Rattle.rules.proofs.Opened.{opened}
 use Rattle.rules.proofs.Starred.{numberAt}
 

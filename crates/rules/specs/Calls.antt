@@ -1,4 +1,4 @@
--- The four calls: what each decides, and the one place at which anything is done to memory, the cells and the map registers.
+-- The four calls: what each decides, and the one place at which memory and the map registers change, and the cells other than by a look-up.
 use Prim.Native.Nat.{ℕ}
 use mathlib.Core.List.{[]}
 use Rattle.rules.specs.Types.{Core, Maps, Cells, Unit, Call, Answer, Effect, Ran, Reply}
@@ -83,6 +83,10 @@ settled m r d =
 unfoldable pub callOf : Memory → Unit → Call → After
 callOf m u c = settled m (u .maps) (run m (u .maps) (called m (u .core) (u .maps) c) (u .cells))
 
--- "A fresh unit is all zero, then INIT."
+-- "A fresh unit is all zero, then INIT.", with n cells
+unfoldable pub freshWith : ℕ → Unit
+freshWith n = callOf [] (zeroUnit n) Call.Init .reply .unit
+
+-- and with as many as this unit has
 unfoldable pub fresh : Unit
-fresh = callOf [] (zeroUnit cellCount) Call.Init .reply .unit
+fresh = freshWith cellCount

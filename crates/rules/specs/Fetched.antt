@@ -48,7 +48,9 @@ normal s q = eqb (s .fcn) 2 || (eqb (s .fcn) 3 && isFetch q)
 unfoldable pub destinationOnly : Ktcs → Bool
 destinationOnly s = eqb (s .fcn) 1
 
--- SS by what is being executed (source 3.3.2.1, clauses 2, 3 and 4 of SS): n in normal paging, d in destination-only paging, at a DATO
+-- SS by what is being executed, clauses 2, 3 and 4 of SS (source 3.3.2.1): "A DATO operation while executing a TRAP or JSR during normal paging. 3. A
+-- DATO while executing a JSR during destination only paging. 4. Any bus operation while executing a RTS or RTI and paging during normal or
+-- destination - only paging."; n in normal paging, d in destination-only paging, dato at a DATO
 unfoldable pub sourceBy : Kind → Bool → Bool → Bool → Bool
 sourceBy Kind.Jsr n d dato = (n || d) && dato
 sourceBy Kind.Rts n d dato = n || d
@@ -58,7 +60,9 @@ sourceBy Kind.Privileged n d dato = false
 sourceBy Kind.EntryPoint n d dato = false
 sourceBy Kind.Other n d dato = false
 
--- DS by what is being executed (source 3.3.2.1, clauses 2 and 3 of DS): at the second DATO, at the second access
+-- DS by what is being executed, clauses 2 and 3 of DS: "The second DATO operation while executing a TRAP during normal paging. 3. The second bus
+-- operation while not in the fetch state and executing an RTI during normal or destination only paging."; dato2 at the second DATO, access2 at the
+-- second access
 unfoldable pub destinationBy : Kind → Bool → Bool → Bool → Bool → Bool
 destinationBy Kind.Jsr n d dato2 access2 = false
 destinationBy Kind.Rts n d dato2 access2 = false
@@ -79,8 +83,9 @@ destinationSet s f q =
     ((normal s q || destinationOnly s) && eqb (q .state) 2)
     || destinationBy (kindOf (f .newer)) (normal s q) (destinationOnly s) (isDato q && eqb (f .datos) 1) (eqb (f .accesses) 1)
 
--- SS and DS, where the flags are clear: a fetch in normal paging clears both ("It is cleared whenever the processor does any bus operation
--- while in the FETCH state during normal paging"; "a fetch sets neither bit (H)"), and another access may set them
+-- SS and DS, where the flags are clear: a fetch in normal paging clears both (source 3.3.2.1: "It is cleared whenever the processor does any bus
+-- operation while in the "FETCH" state during normal paging if all the error flags are clear."; DS "is cleared whenever the source state bit
+-- is cleared"; "a fetch sets neither bit (H)"), and another access may set them
 unfoldable pub statesMarked : Ktcs → Fetch → Access → Ktcs
 statesMarked s f q =
     pick (isFetch q) (pick (normal s q) (withStates s false false) s)

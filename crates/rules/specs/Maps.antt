@@ -19,12 +19,20 @@ unpaged fcn state = eqb fcn 0 || (eqb fcn 1 && not (eqb state 2 || eqb state 3))
 unfoldable pub unpagedAt : ℕ → ℕ
 unpagedAt a = pick (ltb a 0o160000) a (a + 0o600000)
 
+-- the low 9 bits: an address's offset, the physical page of a map word, a map register (M) or a pointer (m)
+unfoldable pub low9 : ℕ → ℕ
+low9 w = w % 512
+
+-- the high 7 of 16 bits: an address's page, a map register's N, a pointer's n
+unfoldable pub high7 : ℕ → ℕ
+high7 w = w / 512 % 128
+
 -- "Otherwise page p is the top 7 bits, the offset the low 9."
 unfoldable pub pageOf : ℕ → ℕ
-pageOf a = a / 512 % 128
+pageOf a = high7 a
 
 unfoldable pub physicalAt : ℕ → ℕ → ℕ
-physicalAt page a = 512 * page + a % 512
+physicalAt page a = 512 * page + low9 a
 
 -- A map word: "bit 15 resident, 14 public, 13 write-enabled .., 8-0 physical page; 12-9 ignored"
 unfoldable pub residentBit : ℕ → Bool
@@ -35,14 +43,6 @@ publicBit w = bitIn w 0x4000
 
 unfoldable pub writeBit : ℕ → Bool
 writeBit w = bitIn w 0x2000
-
--- the low 9 bits of a map word, a map register (M) or a pointer (m)
-unfoldable pub low9 : ℕ → ℕ
-low9 w = w % 512
-
--- the high 7 bits of a map register (N) or a pointer (n)
-unfoldable pub high7 : ℕ → ℕ
-high7 w = w / 512 % 128
 
 -- "N=0 counts as 128": how many pages a map register calls simple. Both maps and all callers go by `simple`, which is the one boundary.
 unfoldable pub simpleCount : ℕ → ℕ
@@ -64,17 +64,21 @@ lowerAt page p = 512 * page + 2 * p
 unfoldable pub pointedAt : ℕ → ℕ
 pointedAt w = upperAt (low9 w) (high7 w)
 
--- a map word that stands at a place: "A map word or pointer at or beyond L is a time-out."
+-- "A map word or pointer at or beyond L is a time-out.": a walk that reads the word at this address
+unfoldable pub unlessOff : Memory → ℕ → Walk → Walk
+unlessOff m at w = pick (ltb at (length m)) w Walk.Off
+
+-- a map word that stands at a place
 unfoldable pub wordWalk : Memory → ℕ → Walk
-wordWalk m at = pick (ltb at (length m)) (Walk.Direct (wordAt m at) at) Walk.Off
+wordWalk m at = unlessOff m at (Walk.Direct (wordAt m at) at)
 
 -- the map word that a pointer leads to, and "never a pointer again"
 unfoldable pub followed : Memory → ℕ → ℕ → Walk
-followed m from at = pick (ltb at (length m)) (Walk.Pointed (wordAt m at) from at) Walk.Off
+followed m from at = unlessOff m at (Walk.Pointed (wordAt m at) from at)
 
 -- "Other user pages: the word at that same place is a pointer, high 7 bits n, low 9 bits m; the map word is at 512·m+256+2n"
 unfoldable pub pointerWalk : Memory → ℕ → Walk
-pointerWalk m from = pick (ltb from (length m)) (followed m from (pointedAt (wordAt m from))) Walk.Off
+pointerWalk m from = unlessOff m from (followed m from (pointedAt (wordAt m from)))
 
 -- "Exec simple: word at 512·M(KTEM)+256+2p. Other exec pages: word at 512·M(KTUM)+2p."
 unfoldable pub execWalk : Memory → Maps → ℕ → Walk
@@ -129,7 +133,8 @@ cellOf k tag = foundFrom 0 (map tagIn (k .list)) tag
 unfoldable pub stepped : ℕ → ℕ → ℕ
 stepped n counter = pick (ltb counter (0o7 + n)) (counter + 1) 0o10
 
--- "A finished walk fills the cell the counter names, then the counter steps". The first cell is named by 10o; a number past the last names none.
+-- "A finished walk fills the cell the counter names, then the counter steps". The first cell is named by 10o, and by
+-- what is below it; a number past the last names none. (The counter of a unit that calls make is neither.)
 unfoldable pub filled : Cells → ℕ → ℕ → Cells
 filled k tag w =
     record { list = set (k .list) (k .counter - 0o10) (record { tag = tag; word = w }); counter = stepped (length (k .list)) (k .counter) }
@@ -154,7 +159,7 @@ unfoldable pub looked : Memory → Maps → Bool → ℕ → Cells → Looked
 looked m r user p k =
     pick (execZero user p) (record { entry = execZeroEntry r; cells = k }) (soughtIn m r user p k (cellOf k (tagOf user p)))
 
--- one cell, emptied if it holds the page
+-- one cell, emptied if it holds the page; an empty one is empty as it was, which is all that exec page 0, whose tag is 0, can meet
 unfoldable pub cellForgotten : ℕ → Cell → Cell
 cellForgotten tag h = pick (eqb (h .tag) tag) emptyCell h
 

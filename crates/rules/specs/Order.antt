@@ -1,4 +1,4 @@
--- An access as the sequence of its steps (01, "Order in one access"). Each piece is named after the step that it begins with.
+-- An access as the sequence of its steps (01, "Order in one access"): from its last pieces to the whole.
 use Prim.Native.Nat.{ℕ}
 use mathlib.Core.Bool.{Bool, true, false}
 use lib.Dec.{ltb}
@@ -34,39 +34,44 @@ outerFault j f = faulted j false (tagOf (j .core .ktcs .um) (pageOf (j .q .addr)
 
 -- Reading and storing at a place -----------------------------------------------------------------------------------------
 
--- a register read: KTMR and the scratchpad words from the cells, the others from the rest of the unit
-unfoldable pub readIn : Job → Register → (ℕ → Prog) → Prog
-readIn j Register.Ktmr f = peek Register.Ktmr f
-readIn j Register.Ktcs f = f (registerWord (j .core) (j .maps) Register.Ktcs)
-readIn j (Register.Kept i) f = f (registerWord (j .core) (j .maps) (Register.Kept i))
-readIn j Register.Ktum f = f (registerWord (j .core) (j .maps) Register.Ktum)
-readIn j Register.Ktem f = f (registerWord (j .core) (j .maps) Register.Ktem)
-readIn j (Register.Pad i) f = peek (Register.Pad i) f
+-- Where a read gets its word: it is at hand, or the cells have to tell it.
+pub data Source : Type 0 where
+  at-hand : ℕ → Source
+  in-cells : Register → Source
+
+-- a register: KTMR and the scratchpad words from the cells, the others from the rest of the unit
+unfoldable pub sourceIn : Job → Register → Source
+sourceIn j Register.Ktmr = in-cells Register.Ktmr
+sourceIn j Register.Ktcs = at-hand (registerWord (j .core) (j .maps) Register.Ktcs)
+sourceIn j (Register.Kept i) = at-hand (registerWord (j .core) (j .maps) (Register.Kept i))
+sourceIn j Register.Ktum = at-hand (registerWord (j .core) (j .maps) Register.Ktum)
+sourceIn j Register.Ktem = at-hand (registerWord (j .core) (j .maps) Register.Ktem)
+sourceIn j (Register.Pad i) = in-cells (Register.Pad i)
 
 -- "Reads give the whole word at the even address." (No read goes to the window or nowhere: step 10 has ruled that out.)
+unfoldable pub sourceAt : Memory → Job → ℕ → Place → Source
+sourceAt m j at Place.Memory = at-hand (wordAt m (evenOf at))
+sourceAt m j at Place.Window = at-hand 0
+sourceAt m j at (Place.In g) = sourceIn j g
+sourceAt m j at Place.Nowhere = at-hand 0
+
+-- the read, and what is done with the word
+unfoldable pub readFrom : Source → (ℕ → Prog) → Prog
+readFrom (at-hand w) f = f w
+readFrom (in-cells g) f = peek g f
+
 unfoldable pub readAt : Memory → Job → ℕ → Place → (ℕ → Prog) → Prog
-readAt m j at Place.Memory f = f (wordAt m (evenOf at))
-readAt m j at Place.Window f = f 0
-readAt m j at (Place.In g) f = readIn j g f
-readAt m j at Place.Nowhere f = f 0
+readAt m j at pl f = readFrom (sourceAt m j at pl) f
 
--- What a read comes to, with the cells at hand: KTMR and the scratchpad words from the cells, the others from the rest of the unit.
-unfoldable pub wordIn : Job → Cells → Register → ℕ
-wordIn j k Register.Ktmr = peeked k Register.Ktmr
-wordIn j k Register.Ktcs = registerWord (j .core) (j .maps) Register.Ktcs
-wordIn j k (Register.Kept i) = registerWord (j .core) (j .maps) (Register.Kept i)
-wordIn j k Register.Ktum = registerWord (j .core) (j .maps) Register.Ktum
-wordIn j k Register.Ktem = registerWord (j .core) (j .maps) Register.Ktem
-wordIn j k (Register.Pad i) = peeked k (Register.Pad i)
+-- the word itself, where the cells are known: contracts and promises speak of it
+unfoldable pub wordFrom : Cells → Source → ℕ
+wordFrom k (at-hand w) = w
+wordFrom k (in-cells g) = peeked k g
 
--- the word that a read at a place gives: what `readAt` goes on with, once the cells have told what they show
 unfoldable pub wordRead : Memory → Job → Cells → ℕ → Place → ℕ
-wordRead m j k at Place.Memory = wordAt m (evenOf at)
-wordRead m j k at Place.Window = 0
-wordRead m j k at (Place.In g) = wordIn j k g
-wordRead m j k at Place.Nowhere = 0
+wordRead m j k at pl = wordFrom k (sourceAt m j at pl)
 
--- A store into a register, of the core: KTCS by its own rule, the six that remember by word and byte.
+-- A store into a register, of the core: KTCS by its own rule, KTIC to KTDT by word and byte.
 unfoldable pub coreStored : Core → Part → ℕ → Register → Core
 coreStored c p v Register.Ktmr = c
 coreStored c p v Register.Ktcs = withKtcs c (ktcsStored (c .ktcs) p v)
@@ -131,6 +136,7 @@ unfoldable pub unpagedReached : Memory → Job → ℕ → Place → Prog
 unpagedReached m j at pl =
     pick (isFetch (j .q)) (readAt m j at pl (fetched j at (j .core .fetch .public))) (transferred m j at pl)
 
+-- an unpaged 9
 unfoldable pub unpagedTimeOut : Job → Prog
 unpagedTimeOut j = done (outcome (Answer.Fault Fault.NoTarget) (timedOut (j .core) (j .q)) Effect.Keep)
 
@@ -149,10 +155,11 @@ unpagedFrom m c r q =
 
 -- The window's inner access ----------------------------------------------------------------------------------------------
 
--- the address that the window goes on to, and its page's tag: "goes on as a user access to KTAD"
+-- the address that the window goes on to: "goes on as a user access to KTAD"
 unfoldable pub windowAddr : Job → ℕ
 windowAddr j = getD (j .core .kept) ktad 0
 
+-- the page of that address at fault: "a window's inner one once reached", which is from its step 5 on
 unfoldable pub innerFault : Job → Fault → Prog
 innerFault j f = faulted j true (tagOf true (pageOf (windowAddr j))) f
 
@@ -163,13 +170,13 @@ innerTarget m j at Place.Window = innerFault j Fault.NoTarget
 innerTarget m j at (Place.In g) = transferred m j at (Place.In g)
 innerTarget m j at Place.Nowhere = innerFault j Fault.NoTarget
 
--- steps 6 to 8 again, "with no privacy step"
+-- what steps 6 to 8 say of the inner page's entry, and the target of step 10
 unfoldable pub innerRuled : Memory → Job → Ruling → Prog
 innerRuled m j (Ruling.Refused f) = innerFault j f
 innerRuled m j (Ruling.Granted page) =
     innerTarget m j (physicalAt page (windowAddr j)) (placeOf (length m) (physicalAt page (windowAddr j)))
 
--- step 5 again, and the inner page's entry
+-- step 5 again, and the inner page's entry for steps 6 to 8, "with no privacy step"
 unfoldable pub windowed : Memory → Job → Prog
 windowed m j =
     pick (oddWord (j .q .width) (windowAddr j)) (innerFault j Fault.OddAddress)
@@ -188,7 +195,7 @@ outerTarget m j at e Place.Window = pick (isFetch (j .q)) (outerFault j Fault.No
 outerTarget m j at e (Place.In g) = pagedReached m j at e (Place.In g)
 outerTarget m j at e Place.Nowhere = outerFault j Fault.NoTarget
 
--- what steps 6 to 9 say of the entry
+-- what steps 6 to 9 say of the entry, and the target of step 10
 unfoldable pub outerRuled : Memory → Job → Entry → Ruling → Prog
 outerRuled m j e (Ruling.Refused f) = outerFault j f
 outerRuled m j e (Ruling.Granted page) =
@@ -202,15 +209,16 @@ pagedFrom m j =
 
 -- The whole --------------------------------------------------------------------------------------------------------------
 
--- a sequence access: answer 0, no physical address, "Memory and cells stay."
+-- a sequence access, an interrupt or a trap that is taken: answer 0, no physical address, "Memory and cells stay."
 unfoldable pub sequenced : ℕ → Core → Prog
 sequenced w c = done (outcome (Answer.Taken w) c Effect.Keep)
 
--- what step 2 says: a due sequence access ends here, and the steps go on paged, after step 4, or unpaged
+-- "2. The wait (2); a due sequence access ends here.", a START read with KTPC or KTPS ("They give KTPC, then KTPS, address ignored"). The steps go
+-- on paged, after step 4, or unpaged.
 unfoldable pub afterWait : Memory → Core → Maps → Access → Due → Prog
 afterWait m c r q Due.Steps =
     pick (unpaged (c .ktcs .fcn) (q .state)) (unpagedFrom m c r q) (pagedFrom m (record { q = q; core = noted c q; maps = r }))
-afterWait m c r q Due.Late = refused c Answer.NotDue
+afterWait m c r q Due.OutOfTurn = refused c Answer.NotDue
 afterWait m c r q Due.StatusStore = sequenced 0 (statusStored c (q .datum))
 afterWait m c r q Due.ProgramCounterStore = sequenced 0 (programCounterStored c (q .addr) (q .datum))
 afterWait m c r q Due.FirstRead = sequenced (getD (c .kept) ktpc 0) (firstReadDone c)

@@ -1,35 +1,44 @@
 -- The register table: which address is which register, and reading and storing by word and by byte (01, "Registers").
 use Prim.Native.Nat.{ℕ, suc, zero, _+_, _-_, _*_, _/_, _%_}
+use mathlib.Core.Bool.{Bool, true, false}
 use mathlib.Core.List.{List, [], _∷_, _++_}
 use lib.Dec.{eqb, ltb}
 use lib.ListN.{getD, set}
 use Rattle.rules.specs.Types.{Core, Maps, Cell, Cells, Found, Register, Place, Part}
 use Rattle.rules.specs.Choice.{pick}
 use Rattle.rules.specs.Memory.{evenOf}
-use Rattle.rules.specs.Unit.{cellCount, emptyCell}
+use Rattle.rules.specs.Unit.{cellCount, keptCount, emptyCell}
 use Rattle.rules.specs.Status.{packed}
 
--- where a list has x first, counting from i: the one search, for vectors, registers and cells
+-- where a list has x first, counting from i: the one search, for vectors, registers, cells and map words
 unfoldable pub foundFrom : ℕ → List ℕ → ℕ → Found
 foundFrom i [] x = Found.Missing
 foundFrom i (y ∷ ys) x = pick (eqb x y) (Found.At i) (foundFrom (suc i) ys x)
+
+unfoldable pub isFound : Found → Bool
+isFound (Found.At i) = true
+isFound Found.Missing = false
+
+-- whether a list has x
+unfoldable pub among : ℕ → List ℕ → Bool
+among x ys = isFound (foundFrom 0 ys x)
 
 -- even addresses, n of them from a on
 unfoldable pub wordsFrom : ℕ → ℕ → List ℕ
 wordsFrom a zero = []
 wordsFrom a (suc n) = a ∷ wordsFrom (a + 2) n
 
--- The table of addresses: KTWN 777572, KTMR 777574, KTCS 777576, KTIC 777600, KTSP 777602, KTPC 777604, KTPS 777606, KTAD 777610,
--- KTDT 777612, KTUM 777614, KTEM 777616, and from 777620 the scratchpad words, one a cell.
-unfoldable pub registers : List ℕ
-registers = wordsFrom 0o777572 11 ++ wordsFrom 0o777620 cellCount
-
--- the places in that table from which the six that remember, and the scratchpad words, are counted
+-- the places in the table of addresses from which KTIC to KTDT, and the scratchpad words, are counted
 abbrev pub firstKept : ℕ
 firstKept = 3
 
 abbrev pub firstPad : ℕ
 firstPad = 11
+
+-- The table of addresses: KTWN 777572, KTMR 777574, KTCS 777576, KTIC 777600, KTSP 777602, KTPC 777604, KTPS 777606, KTAD 777610,
+-- KTDT 777612, KTUM 777614, KTEM 777616, and from 777620 the scratchpad words, one a cell.
+unfoldable pub registers : List ℕ
+registers = wordsFrom 0o777572 firstPad ++ wordsFrom 0o777620 cellCount
 
 -- which register has this number in the table
 unfoldable pub registerOf : ℕ → Place
@@ -37,7 +46,7 @@ registerOf n =
     pick (eqb n 0) Place.Window
     (pick (eqb n 1) (Place.In Register.Ktmr)
     (pick (eqb n 2) (Place.In Register.Ktcs)
-    (pick (ltb n 9) (Place.In (Register.Kept (n - firstKept)))
+    (pick (ltb n (firstKept + keptCount)) (Place.In (Register.Kept (n - firstKept)))
     (pick (eqb n 9) (Place.In Register.Ktum)
     (pick (eqb n 10) (Place.In Register.Ktem)
     (Place.In (Register.Pad (n - firstPad))))))))
@@ -61,7 +70,7 @@ merged Part.Whole old v = v
 merged Part.Low old v = old / 256 * 256 + v % 256
 merged Part.High old v = v % 256 * 256 + old % 256
 
--- the six registers that remember, by 01's names: their places, counted from KTIC
+-- KTIC to KTDT by 01's names: their places, counted from KTIC
 abbrev pub ktic : ℕ
 ktic = 0
 
@@ -89,7 +98,8 @@ registerWord c r Register.Ktum = r .ktum
 registerWord c r Register.Ktem = r .ktem
 registerWord c r (Register.Pad i) = 0
 
--- "KTMR reads the counter times 256"; a scratchpad word reads what its cell holds, 0 where it is empty.
+-- "KTMR reads the counter times 256", by 16 bits whatever the counter is; a scratchpad word reads what its cell holds, which in an empty one is 0. (The
+-- others are read by `registerWord`.)
 unfoldable pub peeked : Cells → Register → ℕ
 peeked k Register.Ktmr = k .counter % 256 * 256
 peeked k Register.Ktcs = 0

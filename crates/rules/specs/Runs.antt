@@ -1,4 +1,5 @@
--- For demand 3: runs of calls, what each call did, pages in use, outdated and forgotten, the premises, and the unit with no cells.
+-- For demand 3: runs of calls, what each call did, pages in use, outdated and forgotten, the premises, and the unit with no cells. The quotations
+-- are 01's ("From address to entry") or, where they say so, demand 3's own.
 use Prim.Native.Nat.{ℕ}
 use mathlib.Core.Bool.{Bool, true, false, not, _&&_, _||_}
 use mathlib.Core.List.{List, [], _∷_, _++_}
@@ -6,14 +7,15 @@ use lib.Dec.{eqb}
 use Rattle.rules.specs.Types.{Core, Maps, Cells, Unit, Call, Walk, Answer, Effect, Outcome}
 use Rattle.rules.specs.Choice.{pick}
 use Rattle.rules.specs.Memory.{Memory, evenOf}
-use Rattle.rules.specs.Registers.{peeked}
+use Rattle.rules.specs.Registers.{among, peeked}
 use Rattle.rules.specs.Maps.{looked, execZero, walkOf, readsOf, tagOf}
 use Rattle.rules.specs.Program.{Prog, done, ask, peek, run, plainRun}
 use Rattle.rules.specs.Calls.{After, called, callOf, mapsAfter, memoryAfter}
 
 -- A run ------------------------------------------------------------------------------------------------------------------
 
--- what the host can tell after a call, wait and fetch memory included; scratchpad words and counter are not in it
+-- What is compared after a call; demand 3: "each answer with its data and address, memory byte and operating register (KTCS and 777600o-777616o)". Wait
+-- and fetch memory, which are in the core, are compared too; scratchpad words and counter are not.
 pub record Seen : Type 0 where
   pub answer : Answer
   pub core : Core
@@ -23,7 +25,7 @@ pub record Seen : Type 0 where
 unfoldable pub seenIn : After → Seen
 seenIn a = record { answer = a .reply .answer; core = a .reply .unit .core; maps = a .reply .unit .maps; memory = a .memory }
 
--- what is seen after each call of a run, in which memory "changes only by these calls"
+-- what is seen after each call of a run, in which memory "changes only by these calls" (demand 3)
 unfoldable pub seenAlong : Memory → Unit → List Call → List Seen
 seenAlong m u [] = []
 seenAlong m u (c ∷ cs) = seenIn (callOf m u c) ∷ seenAlong (callOf m u c .memory) (callOf m u c .reply .unit) cs
@@ -55,7 +57,7 @@ pub record Plain : Type 0 where
 unfoldable pub plainOf : Unit → Plain
 plainOf u = record { core = u .core; maps = u .maps }
 
--- the same rules, "which walks the maps on every access"
+-- the same rules, "which walks the maps on every access" (demand 3)
 unfoldable pub plainDecision : Memory → Plain → Call → Outcome
 plainDecision m u c = plainRun m (u .maps) (called m (u .core) (u .maps) c)
 
@@ -80,7 +82,8 @@ pub record Visit : Type 0 where
   pub tag : ℕ
   pub walk : Walk
 
--- "A window's access goes to its outer page and, once reached, to its inner one.": the pages whose entry was asked for (step 6).
+-- "A window's access goes to its outer page and, once reached, to its inner one.": the pages whose entry was asked for (step 6). An odd address is
+-- refused before that, and goes to no page, though the page is at fault and is forgotten.
 -- Exec page 0 has no map words that could be stored into, so it is left out.
 unfoldable pub visit : Memory → Maps → Bool → ℕ → List Visit
 visit m r user p = pick (execZero user p) [] (record { tag = tagOf user p; walk = walkOf m r user p } ∷ [])
@@ -136,6 +139,7 @@ pub data Use : Type 0 where
 abbrev pub History : Type 0
 History = ℕ → Use
 
+-- of a fresh unit
 unfoldable pub noneInUse : History
 noneInUse t = unused
 
@@ -153,13 +157,10 @@ usedBy Walk.Off u = u
 unfoldable pub told : History → ℕ → Use → History
 told h tag u t = pick (eqb t tag) u (h t)
 
+-- the history once a call has gone to these pages
 unfoldable pub inUseAfter : History → List Visit → History
 inUseAfter h [] = h
 inUseAfter h (v ∷ vs) = inUseAfter (told h (v .tag) (usedBy (v .walk) (h (v .tag)))) vs
-
-unfoldable pub among : ℕ → List ℕ → Bool
-among a [] = false
-among a (b ∷ bs) = eqb a b || among a bs
 
 -- "Storing counts even if the value is equal.", and one byte of a map word counts for the word
 unfoldable pub struck : ℕ → Use → Use
@@ -176,6 +177,7 @@ historyAfter (Effect.StoreWord at v) h t = struck at (h t)
 historyAfter (Effect.StoreByte at v) h t = struck at (h t)
 historyAfter (Effect.StorePad i p v) h t = h t
 
+-- the history after a call
 unfoldable pub heard : History → Deed → History
 heard h d = historyAfter (d .effect) (inUseAfter h (d .visits))
 
@@ -186,16 +188,17 @@ isOutdated unused = false
 isOutdated (inUse rs) = false
 isOutdated outdated = true
 
--- "no access goes to a page whose map words were stored into since it came into use and not yet forgotten"
+-- demand 3: "no access goes to a page whose map words were stored into since it came into use and not yet forgotten"
 unfoldable pub noneOutdated : History → List Visit → Bool
 noneOutdated h [] = true
 noneOutdated h (v ∷ vs) = not (isOutdated (h (v .tag))) && noneOutdated h vs
 
--- the premises, of one call: also "no call reaches the scratchpad words or the replacement register"
+-- the premises, of one call; demand 3: also "no call reaches the scratchpad words or the replacement register"
 unfoldable pub allowed : History → Deed → Bool
 allowed h d = not (d .reaches) && noneOutdated h (d .visits)
 
--- the premises along a run in which memory "changes only by these calls", which keep its length
+-- The premises along a run in which memory "changes only by these calls" (demand 3), which keep its length. The history is what is known of the pages
+-- before it: of a fresh unit, whose cells are empty, none is in use.
 unfoldable pub meets : Memory → Unit → History → List Call → Bool
 meets m u h [] = true
 meets m u h (c ∷ cs) =

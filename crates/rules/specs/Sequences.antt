@@ -4,19 +4,19 @@ use mathlib.Core.Bool.{Bool, true, false, not, _&&_}
 use mathlib.Core.List.{List}
 use lib.Dec.{eqb, ltb}
 use lib.ListN.{set}
-use Rattle.rules.specs.Types.{Ktcs, Fetch, Wait, Core, Access, Kind, Fault, Found}
+use Rattle.rules.specs.Types.{Ktcs, Fetch, Wait, Core, Access, Kind, Fault}
 use Rattle.rules.specs.Choice.{pick}
 use Rattle.rules.specs.Unit.{clearFetch, withKtcs, withKept, vectors}
 use Rattle.rules.specs.Status.{withModes, withFlags}
-use Rattle.rules.specs.Registers.{ktsp, ktpc, ktps, ktad, ktdt, foundFrom}
+use Rattle.rules.specs.Registers.{ktsp, ktpc, ktps, ktad, ktdt, among}
 use Rattle.rules.specs.Fetched.{kindOf}
 
--- Leaving user mode ------------------------------------------------------------------------------------------------------
+-- The wait for SERVICE -------------------------------------------------------------------------------------------------
 
 -- What a violation, an interrupt and a trap share: "IU takes UM; UM clears; .. fetch memory clears; the unit waits for two SERVICE DATOs."
--- The registers and KTCS, the latter as it is but for that, are given.
-unfoldable pub leftFor : Ktcs → List ℕ → Core
-leftFor s kept = record { ktcs = withModes s (s .fcn) false (s .um); kept = kept; wait = Wait.StatusDue; fetch = clearFetch }
+-- KTIC to KTDT, and KTCS but for its modes, are as given.
+unfoldable pub serviceAwaited : Ktcs → List ℕ → Core
+serviceAwaited s kept = record { ktcs = withModes s (s .fcn) false (s .um); kept = kept; wait = Wait.StatusDue; fetch = clearFetch }
 
 -- A violation ------------------------------------------------------------------------------------------------------------
 
@@ -58,7 +58,7 @@ linesKept kept inner a d = set (addressKept kept inner a) ktdt d
 
 -- "Any of answers 4-8, or a paged 9", of the core
 unfoldable pub violated : Core → Access → Bool → Fault → Core
-violated c q inner f = leftFor (flagged (startEnded (c .ktcs)) f) (linesKept (c .kept) inner (q .addr) (faultData q f))
+violated c q inner f = serviceAwaited (flagged (startEnded (c .ktcs)) f) (linesKept (c .kept) inner (q .addr) (faultData q f))
 
 -- an unpaged 9: "unpaged: step 4, KTAD, KTDT"
 unfoldable pub timedOut : Core → Access → Core
@@ -78,7 +78,8 @@ programCounterStored c a v =
 
 -- The two START reads ----------------------------------------------------------------------------------------------------
 
--- "They give KTPC, then KTPS, address ignored"
+-- after the first, the second is due: "the next two accesses other than a fetch must be word DATIs" (what they give is said by `afterWait` of
+-- Order.antt)
 unfoldable pub firstReadDone : Core → Core
 firstReadDone c = record { ktcs = c .ktcs; kept = c .kept; wait = Wait.SecondReadDue; fetch = c .fetch }
 
@@ -90,7 +91,7 @@ userStarted c = record { ktcs = withModes (c .ktcs) 2 true (c .ktcs .iu); kept =
 
 -- "Interrupt: IU takes UM; from user mode UM clears, fetch memory clears, and the same wait begins."
 unfoldable pub interrupted : Core → Core
-interrupted c = pick (c .ktcs .um) (leftFor (c .ktcs) (c .kept)) (withKtcs c (withModes (c .ktcs) (c .ktcs .fcn) false false))
+interrupted c = pick (c .ktcs .um) (serviceAwaited (c .ktcs) (c .kept)) (withKtcs c (withModes (c .ktcs) (c .ktcs .fcn) false false))
 
 unfoldable pub isTrap : Kind → Bool
 isTrap Kind.Jsr = false
@@ -111,15 +112,11 @@ trapTaken c v = c .ktcs .um && not (eqb v 0o34 && not (trapTwice (c .fetch)))
 
 -- "that changes nothing. Trap from exec changes nothing."
 unfoldable pub trapped : Core → ℕ → Core
-trapped c v = pick (trapTaken c v) (leftFor (c .ktcs) (c .kept)) c
-
-unfoldable pub isFound : Found → Bool
-isFound (Found.At i) = true
-isFound Found.Missing = false
+trapped c v = pick (trapTaken c v) (serviceAwaited (c .ktcs) (c .kept)) c
 
 -- a trap's shape: its vector is in the list
 unfoldable pub vectorListed : ℕ → Bool
-vectorListed v = isFound (foundFrom 0 vectors v)
+vectorListed v = among v vectors
 
 -- "while waiting, another call than the one due (INIT excepted); FCN 3: interrupt, trap": whether an interrupt or a trap may come
 unfoldable pub idle : Wait → ℕ → Bool

@@ -13,7 +13,8 @@ bitOf false v = 0
 unfoldable pub bitIn : ℕ → ℕ → Bool
 bitIn w v = eqb (w / v % 2) 1
 
--- "KTCS (H): FCN bits 1-0, SS 2, DS 3, UM 4, IU 5, RV 11, PV 12, WV 13, AV 14, IV 15; others read 0."
+-- "KTCS (H): FCN bits 1-0, SS 2, DS 3, UM 4, IU 5, RV 11, PV 12, WV 13, AV 14, IV 15; others read 0." FCN is
+-- taken by its two bits, whatever number it is.
 unfoldable pub packed : Ktcs → ℕ
 packed s =
     s .fcn % 4 + bitOf (s .ss) 4 + bitOf (s .ds) 8 + bitOf (s .um) 16 + bitOf (s .iu) 32 + bitOf (s .rv) 2048 + bitOf (s .pv) 4096

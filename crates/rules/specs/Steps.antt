@@ -1,4 +1,5 @@
--- The tests of the eleven steps of an access, in their order; step 4, which tests nothing, is `noted` of Fetched.antt.
+-- The tests of the eleven steps of an access, in their order. Step 4, which refuses nothing, is `noted` of Fetched.antt; step 6's walk is `looked` of
+-- Maps.antt; step 10's test is `placeOf` of Registers.antt, which Order.antt asks.
 use Prim.Native.Nat.{ℕ, _%_}
 use mathlib.Core.Bool.{Bool, false, not, _&&_, _||_}
 use lib.Dec.{eqb, ltb}
@@ -6,7 +7,7 @@ use Rattle.rules.specs.Types.{Fetch, Wait, Core, Access, Kind, Due, Entr
 use Rattle.rules.specs.Choice.{pick}
 use Rattle.rules.specs.Memory.{goodLength}
 use Rattle.rules.specs.Maps.{residentBit, publicBit, writeBit, low9}
-use Rattle.rules.specs.Fetched.{isFetch, kindOf}
+use Rattle.rules.specs.Fetched.{isFetch, isDato, kindOf}
 
 -- Step 1 -----------------------------------------------------------------------------------------------------------------
 
@@ -19,7 +20,7 @@ wordDati q = eqb (q .op) 0 && eqb (q .width) 0
 
 -- what answer 1 refuses: "DATO as byte, DATOB as word; FETCH not a word DATI"
 unfoldable pub illFitting : Access → Bool
-illFitting q = (eqb (q .op) 2 && eqb (q .width) 1) || (eqb (q .op) 3 && eqb (q .width) 0) || (isFetch q && not (wordDati q))
+illFitting q = (isDato q && eqb (q .width) 1) || (eqb (q .op) 3 && eqb (q .width) 0) || (isFetch q && not (wordDati q))
 
 -- "1. Shape (answer 1)": "a number outside its list; DATO as byte, DATOB as word; FETCH not a word DATI; for an access, L bad"
 unfoldable pub wellShaped : ℕ → Access → Bool
@@ -29,18 +30,19 @@ wellShaped len q = listed q && not (illFitting q) && goodLength len
 
 -- "the unit waits for two SERVICE DATOs"
 unfoldable pub serviceDato : Access → Bool
-serviceDato q = eqb (q .op) 2 && eqb (q .state) 4
+serviceDato q = isDato q && eqb (q .state) 4
 
 -- "the next two accesses other than a fetch must be word DATIs"
 unfoldable pub startRead : Access → Bool
 startRead q = not (isFetch q) && wordDati q
 
--- "FCN 3: the next two accesses other than a fetch must be word DATIs. .. Fetches may come before the first and not between."
+-- "while waiting, another call than the one due" is refused; "FCN 3: the next two accesses other than a fetch must be word DATIs. .. Fetches may come
+-- before the first and not between."
 unfoldable pub dueWhen : Wait → ℕ → Access → Due
-dueWhen Wait.Nothing fcn q = pick (eqb fcn 3 && not (isFetch q)) (pick (startRead q) Due.FirstRead Due.Late) Due.Steps
-dueWhen Wait.StatusDue fcn q = pick (serviceDato q) Due.StatusStore Due.Late
-dueWhen Wait.ProgramCounterDue fcn q = pick (serviceDato q) Due.ProgramCounterStore Due.Late
-dueWhen Wait.SecondReadDue fcn q = pick (startRead q) Due.SecondRead Due.Late
+dueWhen Wait.Nothing fcn q = pick (eqb fcn 3 && not (isFetch q)) (pick (startRead q) Due.FirstRead Due.OutOfTurn) Due.Steps
+dueWhen Wait.StatusDue fcn q = pick (serviceDato q) Due.StatusStore Due.OutOfTurn
+dueWhen Wait.ProgramCounterDue fcn q = pick (serviceDato q) Due.ProgramCounterStore Due.OutOfTurn
+dueWhen Wait.SecondReadDue fcn q = pick (startRead q) Due.SecondRead Due.OutOfTurn
 
 -- "2. The wait (2); a due sequence access ends here."
 unfoldable pub dueOf : Core → Access → Due

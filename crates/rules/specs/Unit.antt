@@ -9,6 +9,10 @@ use Rattle.rules.specs.Types.{Ktcs, Fetch, Wait, Core, Cell, Cells, Unit
 abbrev pub cellCount : ℕ
 cellCount = 8
 
+-- how many registers there are into which a store does no more than that: KTIC, KTSP, KTPC, KTPS, KTAD and KTDT
+abbrev pub keptCount : ℕ
+keptCount = 6
+
 -- "Vectors: 4, 10, 14, 20, 24, 30, 34 (o)."
 abbrev pub vectors : List ℕ
 vectors = 0o4 ∷ 0o10 ∷ 0o14 ∷ 0o20 ∷ 0o24 ∷ 0o30 ∷ 0o34 ∷ []
@@ -43,11 +47,11 @@ withFetch c f = record { ktcs = c .ktcs; kept = c .kept; wait = c .wait; fetch =
 unfoldable pub initCore : Core → Core
 initCore c = record { ktcs = clearKtcs; kept = c .kept; wait = Wait.Nothing; fetch = clearFetch }
 
--- "A fresh unit is all zero, then INIT.": the zeros. What INIT makes of it is `fresh` of Calls.antt.
+-- "A fresh unit is all zero, then INIT.": the zeros, with n cells. What INIT makes of it is `fresh` of Calls.antt.
 unfoldable pub zeroUnit : ℕ → Unit
 zeroUnit n =
     record {
-      core = record { ktcs = clearKtcs; kept = replicate 6 0; wait = Wait.Nothing; fetch = clearFetch };
+      core = record { ktcs = clearKtcs; kept = replicate keptCount 0; wait = Wait.Nothing; fetch = clearFetch };
       maps = record { ktum = 0; ktem = 0 };
       cells = record { list = replicate n emptyCell; counter = 0 };
     }

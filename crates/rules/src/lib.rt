@@ -47,7 +47,8 @@ pub enum Wait {
     SecondReadDue,
 }
 
-// How many registers only remember: KTIC, KTSP, KTPC, KTPS, KTAD and KTDT, in the order of their addresses.
+// How many registers there are into which a store does no more than that: KTIC, KTSP, KTPC, KTPS, KTAD and KTDT, in the order of their
+// addresses.
 pub const KEPT: usize = 6;
 
 // All of the unit but the map registers and the cells. The unit with no cells has this and the map registers alone.
@@ -113,7 +114,7 @@ pub enum Found {
 
 // Registers ------------------------------------------------------------------------------------------------------------
 
-// The addresses of KTWN, KTMR, KTCS, the six that only remember, KTUM, KTEM and the scratchpad words 10 to 17 octal.
+// The addresses of KTWN, KTMR, KTCS, KTIC to KTDT, KTUM, KTEM and the scratchpad words 10 to 17 octal.
 pub const REGISTERS: [usize; 19] = [
     0o777572,
     0o777574,
@@ -140,7 +141,7 @@ pub const REGISTERS: [usize; 19] = [
 pub enum Register {
     Ktmr,
     Ktcs,
-    // One of the six that only remember, counted from KTIC.
+    // One of KTIC, KTSP, KTPC, KTPS, KTAD and KTDT, counted from KTIC.
     Kept(usize),
     Ktum,
     Ktem,
@@ -209,7 +210,7 @@ pub enum Due {
     // Nothing is due: the steps go on.
     Steps,
     // Another access is due.
-    Late,
+    OutOfTurn,
     StatusStore,
     ProgramCounterStore,
     FirstRead,
@@ -270,7 +271,8 @@ pub struct Shown {
     pub physical: Physical,
 }
 
-// What an access is to do once its steps have ruled. Nothing else changes memory, the cells or the map registers.
+// What a call is to do once its steps have ruled. Nothing else changes memory or the map registers; the cells change by this and by
+// look-ups.
 pub enum Effect {
     Keep,
     // The cell of the page with this tag empties.

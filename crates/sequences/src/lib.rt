@@ -86,7 +86,7 @@ pub fn interrupted(c: Core) -> Core
 {
     if c.ktcs.um {
         let kept = c.kept;
-        violations::left_for(c.ktcs, kept)
+        violations::service_awaited(c.ktcs, kept)
     } else {
         let ktcs = status::with_modes(c.ktcs, c.ktcs.fcn, false, false);
         let mut d = c;
@@ -129,7 +129,7 @@ pub fn trapped(c: Core, v: u64) -> Core
 {
     if trap_taken(c, v) {
         let kept = c.kept;
-        violations::left_for(c.ktcs, kept)
+        violations::service_awaited(c.ktcs, kept)
     } else {
         c
     }

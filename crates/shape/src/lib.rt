@@ -56,14 +56,14 @@ fn start_read(q: Access) -> bool
 
 // What is due, where it is what comes.
 fn due_if(comes: bool, due: Due) -> Due
-    ensures { λ r. ⌜ r ≡ pick comes due Due.Late ⌝ }
+    ensures { λ r. ⌜ r ≡ pick comes due Due.OutOfTurn ⌝ }
 {
-    if comes { due } else { Due::Late }
+    if comes { due } else { Due::OutOfTurn }
 }
 
 // The same for a SERVICE DATO.
 fn service_due(q: Access, due: Due) -> Due
-    ensures { λ r. ⌜ r ≡ pick (serviceDato q) due Due.Late ⌝ }
+    ensures { λ r. ⌜ r ≡ pick (serviceDato q) due Due.OutOfTurn ⌝ }
 {
     due_if(service_dato(q), due)
 }

@@ -10,7 +10,7 @@ use rules::Ran;
 use rules::Register;
 ghost use mathlib.Core.Path.{_≡_};
 ghost use Rattle.rules.specs.Program.{run};
-ghost use Rattle.rules.specs.Order.{wordIn, wordRead, storedAt, transferred};
+ghost use Rattle.rules.specs.Order.{sourceIn, wordFrom, wordRead, storedAt, transferred};
 
 // A call that has ended, with the cells as its look-ups left them.
 pub fn ended(o: Outcome, k: Cells) -> Ran
@@ -24,7 +24,7 @@ pub fn ended(o: Outcome, k: Cells) -> Ran
 
 // What a read of a register gives: from the cells for KTMR and the scratchpad words, from the rest of the unit otherwise.
 fn word_in(j: Job, k: Cells, g: Register) -> u16
-    ensures { λ r. ⌜ r ≡ wordIn j k g ⌝ }
+    ensures { λ r. ⌜ r ≡ wordFrom k (sourceIn j g) ⌝ }
 {
     let c = j.core;
     let maps = j.maps;

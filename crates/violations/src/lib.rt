@@ -3,7 +3,7 @@ ghost use mathlib.Core.Path.{_≡_};
 ghost use lib.Dec.{eqb};
 ghost use Rattle.rules.specs.Choice.{pick};
 ghost use Rattle.rules.specs.Unit.{clearFetch};
-ghost use Rattle.rules.specs.Sequences.{leftFor, flagged, startEnded, dataLines, faultData, addressKept, linesKept, violated, timedOut};
+ghost use Rattle.rules.specs.Sequences.{serviceAwaited, flagged, startEnded, dataLines, faultData, addressKept, linesKept, violated, timedOut};
 use rules::Access;
 use rules::Core;
 use rules::Fault;
@@ -26,8 +26,8 @@ pub fn clear_fetch() -> Fetch
 }
 
 // What a violation, an interrupt and a trap share: "IU takes UM; UM clears; .. fetch memory clears; the unit waits for two SERVICE DATOs."
-pub fn left_for(s: Ktcs, kept: [u16; KEPT]) -> Core
-    ensures { λ r. ⌜ r ≡ leftFor s kept ⌝ }
+pub fn service_awaited(s: Ktcs, kept: [u16; KEPT]) -> Core
+    ensures { λ r. ⌜ r ≡ serviceAwaited s kept ⌝ }
 {
     let ktcs = status::with_modes(s, s.fcn, false, s.um);
     let fetch = clear_fetch();
@@ -114,7 +114,7 @@ pub fn violated(c: Core, q: Access, inner: bool, f: Fault) -> Core
 {
     let kept = c.kept;
     let lines = lines_kept(kept, inner, q.addr, fault_data(q, f));
-    left_for(flagged(start_ended(c.ktcs), f), lines)
+    service_awaited(flagged(start_ended(c.ktcs), f), lines)
 }
 
 // An unpaged 9: "unpaged: step 4, KTAD, KTDT".

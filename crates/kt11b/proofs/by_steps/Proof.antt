@@ -14,21 +14,18 @@ decoded-requires c κs = search needs
 access-requires : tie.Need-access-requires
 access-requires c κs = search needs
 
-coded-requires : tie.Need-coded-requires
-coded-requires c κs = search needs
-
-replied-requires : tie.Need-replied-requires
-replied-requires c κs = search needs
+put-back-requires : tie.Need-put-back-requires
+put-back-requires c κs = search needs
 
 same-length : tie.Need-same-length
 same-length c = search needs
 
 returns : tie.Need-returns
 returns c = (
-  unit-words _ _ _ _ _ (sym (c .before .before .before .before .before .before .before .before .before .is-unit .ensures) ∙ c .before .before .before .before .before .before .before .before .if1 .taken) (c .before .before .before .before .before .before .before .decoded .ensures) (c .before .before .before .before .before .access .ensures .0) _ (c .before .coded .ensures),
+  unit-words _ _ _ _ _ (sym (c .before .before .before .before .before .before .before .before .is-unit .ensures) ∙ c .before .before .before .before .before .before .before .if1 .taken) (c .before .before .before .before .before .before .decoded .ensures) (c .before .before .before .before .access .ensures .0) _ (c .put-back .ensures .0),
   (
-    unit-memory _ _ _ _ _ (sym (c .before .before .before .before .before .before .before .before .before .is-unit .ensures) ∙ c .before .before .before .before .before .before .before .before .if1 .taken) (c .before .before .before .before .before .before .before .decoded .ensures) (c .before .before .before .before .before .access .ensures .1),
-    unit-reply _ _ _ _ _ (sym (c .before .before .before .before .before .before .before .before .before .is-unit .ensures) ∙ c .before .before .before .before .before .before .before .before .if1 .taken) (c .before .before .before .before .before .before .before .decoded .ensures) (c .before .before .before .before .before .access .ensures .0) _ (c .replied .ensures),
+    unit-memory _ _ _ _ _ (sym (c .before .before .before .before .before .before .before .before .is-unit .ensures) ∙ c .before .before .before .before .before .before .before .if1 .taken) (c .before .before .before .before .before .before .decoded .ensures) (c .before .before .before .before .access .ensures .1),
+    unit-reply _ _ _ _ _ (sym (c .before .before .before .before .before .before .before .before .is-unit .ensures) ∙ c .before .before .before .before .before .before .before .if1 .taken) (c .before .before .before .before .before .before .decoded .ensures) (c .before .before .before .before .access .ensures .0) _ (c .put-back .ensures .1),
   ),
 )
 
@@ -45,8 +42,7 @@ by-steps-spec =
     is-unit-requires
     decoded-requires
     access-requires
-    coded-requires
-    replied-requires
+    put-back-requires
     same-length
     returns
     no-unit-requires

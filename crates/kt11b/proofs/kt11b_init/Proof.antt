@@ -14,16 +14,13 @@ decoded-requires c κs = search needs
 init-requires : tie.Need-init-requires
 init-requires c κs = search needs
 
-coded-requires : tie.Need-coded-requires
-coded-requires c κs = search needs
-
-replied-requires : tie.Need-replied-requires
-replied-requires c κs = search needs
+put-back-requires : tie.Need-put-back-requires
+put-back-requires c κs = search needs
 
 returns : tie.Need-returns
 returns c = (
-  λ m. unit-words m _ _ _ _ (sym (c .before .before .before .before .before .before .is-unit .ensures) ∙ c .before .before .before .before .before .if1 .taken) (c .before .before .before .before .decoded .ensures) (c .before .before .before .init .ensures m) _ (c .before .coded .ensures),
-  λ m. unit-reply m _ _ _ _ (sym (c .before .before .before .before .before .before .is-unit .ensures) ∙ c .before .before .before .before .before .if1 .taken) (c .before .before .before .before .decoded .ensures) (c .before .before .before .init .ensures m) _ (c .replied .ensures),
+  λ m. unit-words m _ _ _ _ (sym (c .before .before .before .before .before .is-unit .ensures) ∙ c .before .before .before .before .if1 .taken) (c .before .before .before .decoded .ensures) (c .before .before .init .ensures m) _ (c .put-back .ensures .0),
+  λ m. unit-reply m _ _ _ _ (sym (c .before .before .before .before .before .is-unit .ensures) ∙ c .before .before .before .before .if1 .taken) (c .before .before .before .decoded .ensures) (c .before .before .init .ensures m) _ (c .put-back .ensures .1),
 )
 
 no-unit-requires : tie.Need-no-unit-requires
@@ -40,8 +37,7 @@ kt11b-init-spec =
     is-unit-requires
     decoded-requires
     init-requires
-    coded-requires
-    replied-requires
+    put-back-requires
     returns
     no-unit-requires
     returns-2)

@@ -1,6 +1,6 @@
 -- The page of an address, 7 bits of it.
 use borrow.Author.Needs.{needs}
-use Rattle.rules.specs.Maps.{pageOf}
+use Rattle.rules.specs.Maps.{pageOf, high7}
 use Rattle.maps.proofs.page_of.Statement.{statement}
 use Rattle.maps.proofs.page_of.Tie as tie
 
@@ -8,7 +8,7 @@ cast-result : tie.Need-cast-result
 cast-result c = search needs
 
 returns : tie.Need-returns
-unfolding pageOf
+unfolding pageOf high7
 returns c = search needs
 
 pub page-of-spec : {M : Type 1} → statement M

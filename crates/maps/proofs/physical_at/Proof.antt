@@ -1,6 +1,6 @@
 -- A physical address, from its page and the offset.
 use borrow.Author.Needs.{needs}
-use Rattle.rules.specs.Maps.{physicalAt}
+use Rattle.rules.specs.Maps.{low9, physicalAt}
 use Rattle.maps.proofs.physical_at.Statement.{statement}
 use Rattle.maps.proofs.physical_at.Tie as tie
 
@@ -11,7 +11,7 @@ add-result : tie.Need-add-result
 add-result c = search needs
 
 returns : tie.Need-returns
-unfolding physicalAt
+unfolding low9 physicalAt
 returns c = search needs
 
 pub physical-at-spec : {M : Type 1} → statement M

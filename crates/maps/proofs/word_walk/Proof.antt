@@ -2,7 +2,7 @@
 use mathlib.Core.Path.{sym}
 use borrow.Author.Tests.{lt-ltb, le-ltb}
 use borrow.Author.Needs.{needs}
-use Rattle.rules.specs.Maps.{wordWalk}
+use Rattle.rules.specs.Maps.{wordWalk, unlessOff}
 use Rattle.rules.specs.Choice.{pick}
 use Rattle.maps.proofs.word_walk.Statement.{statement}
 use Rattle.maps.proofs.word_walk.Tie as tie
@@ -11,11 +11,11 @@ word-at-requires : tie.Need-word-at-requires
 word-at-requires c κs = search needs
 
 returns : tie.Need-returns
-unfolding wordWalk pick
+unfolding wordWalk unlessOff pick
 returns c = simp (sym (c .word-at .ensures), lt-ltb _ _ (c .before .if1 .taken))
 
 returns-2 : tie.Need-returns-2
-unfolding wordWalk pick
+unfolding wordWalk unlessOff pick
 returns-2 c = simp (le-ltb _ _ (c .if1 .left))
 
 pub word-walk-spec : {M : Type 1} → statement M

@@ -1,5 +1,6 @@
 -- `sequences::vector_listed` meets its contract.
-use Rattle.rules.specs.Sequences.{isFound, vectorListed}
+use Rattle.rules.specs.Registers.{isFound, among}
+use Rattle.rules.specs.Sequences.{vectorListed}
 use borrow.Author.Needs.{needs}
 use mathlib.Core.Path.{sym}
 use Rattle.sequences.proofs.vector_listed.Statement.{statement}
@@ -18,11 +19,11 @@ enum-told-2 : tie.Need-enum-told-2
 enum-told-2 c = search needs
 
 returns : tie.Need-returns
-unfolding vectorListed isFound
+unfolding vectorListed among isFound
 returns c = simp (c .enum-told .given .1, sym (c .before .before .found .ensures))
 
 returns-2 : tie.Need-returns-2
-unfolding vectorListed isFound
+unfolding vectorListed among isFound
 returns-2 c = simp (c .enum-told2 .given .1, sym (c .before .before .found .ensures))
 
 pub vector-listed-spec : {M : Type 1} → statement M

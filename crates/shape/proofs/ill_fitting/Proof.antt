@@ -1,4 +1,5 @@
 -- `shape::ill_fitting` meets its contract.
+use Rattle.rules.specs.Fetched.{isDato}
 use Rattle.rules.specs.Steps.{illFitting}
 use borrow.Author.Needs.{needs}
 use mathlib.Core.Path.{sym}
@@ -12,7 +13,7 @@ word-dati-requires : tie.Need-word-dati-requires
 word-dati-requires c κs = search needs
 
 returns : tie.Need-returns
-unfolding illFitting
+unfolding illFitting isDato
 returns c = simp (sym (c .word-dati .ensures), sym (c .before .is-fetch .ensures))
 
 pub ill-fitting-spec : {M : Type 1} → statement M

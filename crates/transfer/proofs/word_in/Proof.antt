@@ -1,5 +1,5 @@
 -- `transfer::word_in` meets its contract.
-use Rattle.rules.specs.Order.{wordIn}
+use Rattle.rules.specs.Order.{sourceIn, wordFrom}
 use mathlib.Core.Path.{sym}
 use borrow.Author.Needs.{needs}
 use Rattle.transfer.proofs.word_in.Statement.{statement}
@@ -42,27 +42,27 @@ peeked-requires-2 : tie.Need-peeked-requires-2
 peeked-requires-2 c κs = search needs
 
 returns : tie.Need-returns
-unfolding wordIn
+unfolding sourceIn wordFrom
 returns c = simp (sym (c .peeked .ensures), c .before .enum-told .given .1)
 
 returns-2 : tie.Need-returns-2
-unfolding wordIn
+unfolding sourceIn wordFrom
 returns-2 c = simp (sym (c .register-word .ensures), c .before .enum-told2 .given .1)
 
 returns-3 : tie.Need-returns-3
-unfolding wordIn
+unfolding sourceIn wordFrom
 returns-3 c = simp (sym (c .register-word2 .ensures), c .before .before .g .given .1)
 
 returns-4 : tie.Need-returns-4
-unfolding wordIn
+unfolding sourceIn wordFrom
 returns-4 c = simp (sym (c .register-word3 .ensures), c .before .enum-told3 .given .1)
 
 returns-5 : tie.Need-returns-5
-unfolding wordIn
+unfolding sourceIn wordFrom
 returns-5 c = simp (sym (c .register-word4 .ensures), c .before .enum-told4 .given .1)
 
 returns-6 : tie.Need-returns-6
-unfolding wordIn
+unfolding sourceIn wordFrom
 returns-6 c = simp (sym (c .peeked2 .ensures), c .before .before .g2 .given .1)
 
 pub word-in-spec : {M : Type 1} → statement M

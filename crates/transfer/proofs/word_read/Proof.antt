@@ -1,5 +1,5 @@
 -- `transfer::word_read` meets its contract.
-use Rattle.rules.specs.Order.{wordRead}
+use Rattle.rules.specs.Order.{sourceAt, wordFrom, wordRead}
 use mathlib.Core.Path.{sym}
 use borrow.Author.Needs.{needs}
 use Rattle.transfer.proofs.word_read.Statement.{statement}
@@ -27,19 +27,19 @@ enum-told-3 : tie.Need-enum-told-3
 enum-told-3 c = search needs
 
 returns : tie.Need-returns
-unfolding wordRead
+unfolding sourceAt wordFrom wordRead
 returns c = simp (sym (c .word-at .ensures), sym (c .before .even-of .ensures), c .before .before .enum-told .given .1)
 
 returns-2 : tie.Need-returns-2
-unfolding wordRead
+unfolding sourceAt wordFrom wordRead
 returns-2 c = simp (c .enum-told2 .given .1)
 
 returns-3 : tie.Need-returns-3
-unfolding wordRead
+unfolding sourceAt wordFrom wordRead
 returns-3 c = simp (sym (c .word-in .ensures), c .before .before .pl .given .1)
 
 returns-4 : tie.Need-returns-4
-unfolding wordRead
+unfolding sourceAt wordFrom wordRead
 returns-4 c = simp (c .enum-told3 .given .1)
 
 pub word-read-spec : {M : Type 1} → statement M

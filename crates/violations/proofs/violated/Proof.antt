@@ -17,12 +17,12 @@ start-ended-requires c κs = search needs
 flagged-requires : tie.Need-flagged-requires
 flagged-requires c κs = search needs
 
-left-for-requires : tie.Need-left-for-requires
-left-for-requires c κs = search needs
+service-awaited-requires : tie.Need-service-awaited-requires
+service-awaited-requires c κs = search needs
 
 returns : tie.Need-returns
 unfolding violated
-returns c = simp (sym (c .left-for .ensures), sym (c .before .flagged .ensures), sym (c .before .before .start-ended .ensures), sym (c .before .before .before .lines-kept .ensures), sym (c .before .before .before .before .fault-data .ensures))
+returns c = simp (sym (c .service-awaited .ensures), sym (c .before .flagged .ensures), sym (c .before .before .start-ended .ensures), sym (c .before .before .before .lines-kept .ensures), sym (c .before .before .before .before .fault-data .ensures))
 
 pub violated-spec : {M : Type 1} → statement M
 violated-spec =
@@ -32,5 +32,5 @@ violated-spec =
     lines-kept-requires
     start-ended-requires
     flagged-requires
-    left-for-requires
+    service-awaited-requires
     returns)

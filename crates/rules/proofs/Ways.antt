@@ -1,43 +1,24 @@
--- Demand 1, stated: why each call ends as it does, and what it leaves as it was. The proofs stand in files of their own.
+-- The ways in which a call ends, in full: the tests that came out so and those passed before, with the answer, the core, the effect and the cells. The
+-- promises of demand 1 follow from it (Promises.antt), and what a page is forgotten by (PremiseWords.antt).
 use Prim.Native.Nat.{ℕ, _-_, _<_}
-use mathlib.Core.Bool.{Bool, true, false, not, _&&_, _||_}
+use mathlib.Core.Bool.{Bool, true, false, not, _&&_}
 use mathlib.Core.Path.{_≡_}
 use mathlib.Core.Logic.{_≢_}
 use lib.Dec.{eqb, ltb}
 use lib.ListN.{length, getD}
-use Rattle.rules.specs.Types.{Ktcs, Core, Maps, Cells, Unit, Access, Call, Found, Register, Place, Entry, Looked, Due, Fault, Ruling, Answer, Physical, Effect, Job, Ran}
+use Rattle.rules.specs.Types.{Ktcs, Core, Cells, Unit, Access, Call, Register, Place, Entry, Due, Fault, Ruling, Answer, Effect, Job, Ran}
 use Rattle.rules.specs.Memory.{Memory, storeWord, storeByte}
-use Rattle.rules.specs.Unit.{emptyCell, withFetch, initCore}
-use Rattle.rules.specs.Status.{flagsClear}
-use Rattle.rules.specs.Registers.{ktic, ktpc, ktps, ktad, ktdt, placeOf, partOf, merged}
-use Rattle.rules.specs.Maps.{unpaged, unpagedAt, pageOf, physicalAt, residentBit, publicBit, writeBit, low9, execZero, tagOf, cellOf, looked, forgotten}
+use Rattle.rules.specs.Unit.{withFetch, initCore}
+use Rattle.rules.specs.Registers.{ktpc, ktps, placeOf, partOf, merged}
+use Rattle.rules.specs.Maps.{unpaged, unpagedAt, physicalAt, residentBit, publicBit, writeBit, low9}
 use Rattle.rules.specs.Fetched.{isFetch, noted, afterFetch}
 use Rattle.rules.specs.Steps.{wellShaped, dueOf, oddWord, watches, forbidden}
-use Rattle.rules.specs.Sequences.{violated, timedOut, statusStored, programCounterStored, firstReadDone, userStarted, interrupted, trapTwice, trapped, vectorListed, idle}
+use Rattle.rules.specs.Sequences.{violated, timedOut, statusStored, programCounterStored, firstReadDone, userStarted, interrupted, trapped, vectorListed, idle}
 use Rattle.rules.specs.Program.{run}
 use Rattle.rules.specs.Order.{wordRead, storedAt, flagAfter, windowAddr}
-use Rattle.rules.specs.Calls.{After, called, settled, callOf}
-use Rattle.rules.specs.Answers.{faultShown, shown}
-
--- An access under way ----------------------------------------------------------------------------------------------------
-
--- what was asked, the unit's core as step 4 leaves it, and the map registers
-abbrev pub job : Unit → Access → Job
-job u q = record { q = q; core = noted (u .core) q; maps = u .maps }
-
--- step 6 for the page of the access's own address: its entry, and the cells after the look-up
-abbrev pub outer : Memory → Unit → Access → Looked
-outer m u q = looked m (u .maps) (job u q .core .ktcs .um) (pageOf (q .addr)) (u .cells)
-
--- step 6 again, for the page that a window goes on to: a user's, by the cells that the first look-up left
-abbrev pub inner : Memory → Unit → Access → Looked
-inner m u q = looked m (u .maps) true (pageOf (windowAddr (job u q))) (outer m u q .cells)
-
-abbrev pub outerTag : Unit → Access → ℕ
-outerTag u q = tagOf (job u q .core .ktcs .um) (pageOf (q .addr))
-
-abbrev pub innerTag : Unit → Access → ℕ
-innerTag u q = tagOf true (pageOf (windowAddr (job u q)))
+use Rattle.rules.specs.Calls.{called, settled, callOf}
+use Rattle.rules.specs.Answers.{shown}
+use Rattle.rules.proofs.Promises.{job, outer, inner, outerTag, innerTag}
 
 -- the physical address, once the steps have given its physical page
 abbrev pub outerAt : Access → ℕ → ℕ
@@ -211,7 +192,7 @@ module _ (m : Memory) (u : Unit) (q : Access) where
     -- "1. Shape (answer 1)."
     misshapen : wellShaped (length m) q ≡ false → Way (unchanged u Answer.Misshapen)
     -- "2. The wait (2); a due sequence access ends here."
-    late : wellShaped (length m) q ≡ true → dueOf (u .core) q ≡ Due.Late → Way (unchanged u Answer.NotDue)
+    late : wellShaped (length m) q ≡ true → dueOf (u .core) q ≡ Due.OutOfTurn → Way (unchanged u Answer.NotDue)
     status-stored :
         wellShaped (length m) q ≡ true → dueOf (u .core) q ≡ Due.StatusStore → Way (taken u 0 (statusStored (u .core) (q .datum)))
     program-counter-stored :
@@ -288,25 +269,9 @@ Explained = (m : Memory) (u : Unit) (c : Call) → Why m u c (decided m u c)
 abbrev pub Settled : Type 0
 Settled = (m : Memory) (u : Unit) (c : Call) (d : Ran) → Why m u c d → decided m u c ≡ d
 
--- Numbers ----------------------------------------------------------------------------------------------------------------
-
--- the number of the answer, by 01's table
-abbrev pub numberOf : After → ℕ
-numberOf a = shown (a .reply .answer) .number
-
--- "one of 0 to 9"
-abbrev pub Numbered : Type 0
-Numbered = (m : Memory) (u : Unit) (c : Call) → numberOf (callOf m u c) < 10
-
--- "18-bit address": of an access at a 16-bit address, each physical address that comes back is one
-abbrev pub EighteenBits : Type 0
-EighteenBits =
-    (m : Memory) (u : Unit) (q : Access) (at : ℕ) → q .addr < 0o200000
-    → shown (callOf m u (Call.Access q) .reply .answer) .physical ≡ Physical.At at → at < 0o1000000
-
 -- Memory -----------------------------------------------------------------------------------------------------------------
 
--- Memory after a call with this answer: as it was, or with a DATO's word or a DATOB's byte stored at the answer's physical address.
+-- memory after a call with this answer: as it was, or with a DATO's word or a DATOB's byte stored at the answer's physical address
 pub data Stored (m : Memory) : Call → Answer → Memory → Type 0 where
   nothing : {c : Call} {a : Answer} → Stored m c a m
   word : {q : Access} {at : ℕ} → q .op ≡ 2 → Stored m (Call.Access q) (Answer.Done 0 at) (storeWord m at (q .datum))
@@ -314,14 +279,6 @@ pub data Stored (m : Memory) : Call → Answer → Memory → Type 0 where
 
 abbrev pub StoredOnly : Type 0
 StoredOnly = (m : Memory) (u : Unit) (c : Call) → Stored m c (callOf m u c .reply .answer) (callOf m u c .memory)
-
--- "memory is untouched by every answer other than 0"
-abbrev pub MemoryUntouched : Type 0
-MemoryUntouched = (m : Memory) (u : Unit) (c : Call) → numberOf (callOf m u c) ≢ 0 → callOf m u c .memory ≡ m
-
--- "and its length never changes"
-abbrev pub LengthKept : Type 0
-LengthKept = (m : Memory) (u : Unit) (c : Call) → length (callOf m u c .memory) ≡ length m
 
 -- What a call does, by its answer -----------------------------------------------------------------------------------------
 
@@ -369,163 +326,3 @@ pub data Does (m : Memory) (u : Unit) : Call → Answer → Effect → Type 0 wh
 -- "Forget" for answers 4 to 8 and a paged 9 alone, "Reload" for INIT and a KTUM or KTEM store alone, stores for answer 0 alone
 abbrev pub EffectsByAnswer : Type 0
 EffectsByAnswer = (m : Memory) (u : Unit) (c : Call) → Does m u c (decided m u c .outcome .answer) (decided m u c .outcome .effect)
-
--- What steps 4 and 6 leave alone, field by field --------------------------------------------------------------------------
-
--- KTCS but for SS and DS
-pub record StatesOnly (s t : Ktcs) : Type 0 where
-  pub fcn : t .fcn ≡ s .fcn
-  pub um : t .um ≡ s .um
-  pub iu : t .iu ≡ s .iu
-  pub rv : t .rv ≡ s .rv
-  pub pv : t .pv ≡ s .pv
-  pub wv : t .wv ≡ s .wv
-  pub av : t .av ≡ s .av
-  pub iv : t .iv ≡ s .iv
-
--- Step 4 makes d of the core c. It moves the counts, KTIC, SS and DS; an unpaged access leaves KTIC; where an error flag stands, the counts
--- alone move; and a fetch moves no count.
-pub record Step4Keeps (q : Access) (c d : Core) : Type 0 where
-  pub ktcs : StatesOnly (c .ktcs) (d .ktcs)
-  pub registers : (i : ℕ) → i ≢ ktic → getD (d .kept) i 0 ≡ getD (c .kept) i 0
-  pub unpaged-registers : unpaged (c .ktcs .fcn) (q .state) ≡ true → d .kept ≡ c .kept
-  pub flagged-ktcs : flagsClear (c .ktcs) ≡ false → d .ktcs ≡ c .ktcs
-  pub flagged-registers : flagsClear (c .ktcs) ≡ false → d .kept ≡ c .kept
-  pub wait : d .wait ≡ c .wait
-  pub newer : d .fetch .newer ≡ c .fetch .newer
-  pub older : d .fetch .older ≡ c .fetch .older
-  pub public : d .fetch .public ≡ c .fetch .public
-  pub fetch-uncounted : isFetch q ≡ true → d .fetch ≡ c .fetch
-
-abbrev pub Step4Leaves : Type 0
-Step4Leaves = (c : Core) (q : Access) → Step4Keeps q c (noted c q)
-
--- Step 6 for a page makes l of the cells k. It fills at most the cell that the counter names; a hit, a walk that timed out and exec page 0 leave
--- the cells and the counter.
-pub record Step6Keeps (user : Bool) (p : ℕ) (k : Cells) (l : Looked) : Type 0 where
-  pub count : length (l .cells .list) ≡ length (k .list)
-  pub others : (i : ℕ) → i ≢ k .counter - 0o10 → getD (l .cells .list) i emptyCell ≡ getD (k .list) i emptyCell
-  pub hit : {i : ℕ} → cellOf k (tagOf user p) ≡ Found.At i → l .cells ≡ k
-  pub timed-out : l .entry ≡ Entry.OffMap → l .cells ≡ k
-  pub exec-zero : execZero user p ≡ true → l .cells ≡ k
-
-abbrev pub Step6Leaves : Type 0
-Step6Leaves = (m : Memory) (r : Maps) (user : Bool) (p : ℕ) (k : Cells) → Step6Keeps user p k (looked m r user p k)
-
--- What a refusal leaves --------------------------------------------------------------------------------------------------
-
--- "answers 1, 2 and 3 change nothing"
-abbrev pub RefusedUnchanged : Type 0
-RefusedUnchanged =
-    (m : Memory) (u : Unit) (c : Call) → numberOf (callOf m u c) ≢ 0 → numberOf (callOf m u c) < 4 → callOf m u c .reply .unit ≡ u
-
--- An unpaged 9 makes d of the core c: what step 4 does, KTAD and KTDT.
-pub record TimeOutKeeps (q : Access) (c d : Core) : Type 0 where
-  pub ktcs : d .ktcs ≡ noted c q .ktcs
-  pub states : StatesOnly (c .ktcs) (d .ktcs)
-  pub registers : (i : ℕ) → i ≢ ktad → i ≢ ktdt → getD (d .kept) i 0 ≡ getD (c .kept) i 0
-  pub wait : d .wait ≡ c .wait
-  pub fetch : d .fetch ≡ noted c q .fetch
-  pub newer : d .fetch .newer ≡ c .fetch .newer
-  pub older : d .fetch .older ≡ c .fetch .older
-  pub public : d .fetch .public ≡ c .fetch .public
-
-pub record UnpagedTimeOut (u : Unit) (q : Access) (a : After) : Type 0 where
-  pub number : numberOf a ≡ 9
-  pub core : a .reply .unit .core ≡ timedOut (noted (u .core) q) q
-  pub maps : a .reply .unit .maps ≡ u .maps
-  pub cells : a .reply .unit .cells ≡ u .cells
-  pub keeps : TimeOutKeeps q (u .core) (a .reply .unit .core)
-
--- An unpaged access is not answered by 4 to 8, and "an unpaged 9 changes only what step 4 does, KTAD and KTDT".
-abbrev pub UnpagedRefusal : Type 0
-UnpagedRefusal =
-    (m : Memory) (u : Unit) (q : Access) → unpaged (u .core .ktcs .fcn) (q .state) ≡ true → 3 < numberOf (callOf m u (Call.Access q))
-    → UnpagedTimeOut u q (callOf m u (Call.Access q))
-
--- Answers 4 to 8 and a paged 9 make d of the core c. SS, DS and KTIC are as step 4 left them, KTSP, KTPC and KTPS as they were, KTAD too in a
--- window's inner access, and FCN unless it was 3. Of the five flags the fault's own is set, and the others are as they were: "AV, RV, WV, PV, IV"
--- are answers 4 to 8, and 9 has none.
-pub record ViolationKeeps (q : Access) (window : Bool) (f : Fault) (c d : Core) : Type 0 where
-  pub fcn : eqb (c .ktcs .fcn) 3 ≡ false → d .ktcs .fcn ≡ c .ktcs .fcn
-  pub ss : d .ktcs .ss ≡ noted c q .ktcs .ss
-  pub ds : d .ktcs .ds ≡ noted c q .ktcs .ds
-  pub av : d .ktcs .av ≡ (c .ktcs .av || eqb (faultShown f .number) 4)
-  pub rv : d .ktcs .rv ≡ (c .ktcs .rv || eqb (faultShown f .number) 5)
-  pub wv : d .ktcs .wv ≡ (c .ktcs .wv || eqb (faultShown f .number) 6)
-  pub pv : d .ktcs .pv ≡ (c .ktcs .pv || eqb (faultShown f .number) 7)
-  pub iv : d .ktcs .iv ≡ (c .ktcs .iv || eqb (faultShown f .number) 8)
-  pub instruction : getD (d .kept) ktic 0 ≡ getD (noted c q .kept) ktic 0
-  pub registers : (i : ℕ) → i ≢ ktic → i ≢ ktad → i ≢ ktdt → getD (d .kept) i 0 ≡ getD (c .kept) i 0
-  pub inner-address : window ≡ true → getD (d .kept) ktad 0 ≡ getD (c .kept) ktad 0
-
--- Emptying the cell of the page at fault makes l of the cells k: the counter and the cells of other pages stay.
-pub record ForgottenKeeps (tag : ℕ) (k l : Cells) : Type 0 where
-  pub counter : l .counter ≡ k .counter
-  pub count : length (l .list) ≡ length (k .list)
-  pub others : (i : ℕ) → getD (k .list) i emptyCell .tag ≢ tag → getD (l .list) i emptyCell ≡ getD (k .list) i emptyCell
-
--- "what steps 4 and 6 did, then the sequence above"
-pub record Violation (m : Memory) (u : Unit) (q : Access) (a : After) : Type 0 where
-  pub fault : Fault
-  pub window : Bool
-  pub tag : ℕ
-  pub left : Cells
-  pub at-fault : AtFault m u q fault window tag left
-  pub answer : a .reply .answer ≡ Answer.Fault fault
-  pub core : a .reply .unit .core ≡ violated (noted (u .core) q) q window fault
-  pub maps : a .reply .unit .maps ≡ u .maps
-  pub cells : a .reply .unit .cells ≡ forgotten left tag
-  pub keeps : ViolationKeeps q window fault (u .core) (a .reply .unit .core)
-  pub others : ForgottenKeeps tag left (a .reply .unit .cells)
-
--- "answers 4 to 8 and a paged 9 change only what steps 4 and 6 do and the sequence"
-abbrev pub PagedRefusal : Type 0
-PagedRefusal =
-    (m : Memory) (u : Unit) (q : Access) → unpaged (u .core .ktcs .fcn) (q .state) ≡ false → 3 < numberOf (callOf m u (Call.Access q))
-    → Violation m u q (callOf m u (Call.Access q))
-
--- Interrupt, trap and INIT -----------------------------------------------------------------------------------------------
-
--- An interrupt or a trap, accepted or not, makes d of the core c: it moves UM and IU, and from user mode the wait and the fetch memory.
-pub record ModesOnly (c d : Core) : Type 0 where
-  pub registers : d .kept ≡ c .kept
-  pub fcn : d .ktcs .fcn ≡ c .ktcs .fcn
-  pub ss : d .ktcs .ss ≡ c .ktcs .ss
-  pub ds : d .ktcs .ds ≡ c .ktcs .ds
-  pub rv : d .ktcs .rv ≡ c .ktcs .rv
-  pub pv : d .ktcs .pv ≡ c .ktcs .pv
-  pub wv : d .ktcs .wv ≡ c .ktcs .wv
-  pub av : d .ktcs .av ≡ c .ktcs .av
-  pub iv : d .ktcs .iv ≡ c .ktcs .iv
-  pub exec-wait : c .ktcs .um ≡ false → d .wait ≡ c .wait
-  pub exec-fetch : c .ktcs .um ≡ false → d .fetch ≡ c .fetch
-
-pub record InterruptKeeps (m : Memory) (u : Unit) (a : After) : Type 0 where
-  pub memory : a .memory ≡ m
-  pub maps : a .reply .unit .maps ≡ u .maps
-  pub cells : a .reply .unit .cells ≡ u .cells
-  pub core : ModesOnly (u .core) (a .reply .unit .core)
-
-abbrev pub InterruptLeaves : Type 0
-InterruptLeaves = (m : Memory) (u : Unit) → InterruptKeeps m u (callOf m u Call.Interrupt)
-
-abbrev pub TrapLeaves : Type 0
-TrapLeaves = (m : Memory) (u : Unit) (v : ℕ) → InterruptKeeps m u (callOf m u (Call.Trap v))
-
--- "Trap from exec changes nothing."
-abbrev pub ExecTrapUnchanged : Type 0
-ExecTrapUnchanged = (m : Memory) (u : Unit) (v : ℕ) → u .core .ktcs .um ≡ false → callOf m u (Call.Trap v) .reply .unit ≡ u
-
--- "vector 34o when the last two fetched words are not both TRAP; that changes nothing"
-abbrev pub OtherTrapUnchanged : Type 0
-OtherTrapUnchanged = (m : Memory) (u : Unit) → trapTwice (u .core .fetch) ≡ false → callOf m u (Call.Trap 0o34) .reply .unit ≡ u
-
--- INIT: "other registers stay (H)"
-pub record InitKeeps (m : Memory) (u : Unit) (a : After) : Type 0 where
-  pub memory : a .memory ≡ m
-  pub maps : a .reply .unit .maps ≡ u .maps
-  pub registers : a .reply .unit .core .kept ≡ u .core .kept
-
-abbrev pub InitLeaves : Type 0
-InitLeaves = (m : Memory) (u : Unit) → InitKeeps m u (callOf m u Call.Init)
