@@ -3,7 +3,9 @@
 use rules::CELLS;
 use rules::Cell;
 use rules::Cells;
+use rules::Core;
 use rules::Found;
+use rules::Maps;
 use rules::Part;
 use rules::Register;
 ghost use mathlib.Core.Path.{_≡_};
@@ -13,6 +15,7 @@ ghost use lib.ListN.{length, getD, set, replicate};
 ghost use Rattle.rules.specs.Unit.{emptyCell, emptied};
 ghost use Rattle.rules.specs.Registers.{foundFrom, peeked, cellStored, padStored};
 ghost use Rattle.rules.specs.Maps.{tagIn, stepped, filled, cellForgotten, forgotten};
+ghost use Rattle.rules.specs.Order.{sourceIn, wordFrom};
 
 // "Emptying a cell sets its tag and word to 0."
 const EMPTY: Cell = Cell { tag: 0, word: 0 };
@@ -161,7 +164,7 @@ pub fn pad_stored(k: Cells, i: usize, p: Part, v: u16) -> Cells
     }
 }
 
-// "KTMR reads the counter times 256"; a scratchpad word reads what its cell holds, 0 where it is empty.
+// "KTMR reads the counter times 256"; a scratchpad word reads what its cell holds.
 pub fn peeked(k: Cells, g: Register) -> u16
     ensures { λ r. ⌜ r ≡ peeked k g ⌝ }
 {
@@ -175,5 +178,19 @@ pub fn peeked(k: Cells, g: Register) -> u16
             let list = k.list;
             cell_at(list, i).word
         }
+    }
+}
+
+// What a read of a register gives: from the cells for KTMR and the scratchpad words, from the rest of the unit otherwise.
+pub fn word_in(c: Core, maps: Maps, k: Cells, g: Register) -> u16
+    ensures { λ r. ⌜ r ≡ wordFrom k (sourceIn c maps g) ⌝ }
+{
+    match g {
+        Register::Ktmr => peeked(k, Register::Ktmr),
+        Register::Ktcs => registers::register_word(c, maps, Register::Ktcs),
+        Register::Kept(i) => registers::register_word(c, maps, Register::Kept(i)),
+        Register::Ktum => registers::register_word(c, maps, Register::Ktum),
+        Register::Ktem => registers::register_word(c, maps, Register::Ktem),
+        Register::Pad(i) => peeked(k, Register::Pad(i)),
     }
 }

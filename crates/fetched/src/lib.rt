@@ -23,14 +23,14 @@ fn is_dato(q: Access) -> bool
 }
 
 // "each stops at 2"
-fn one_more(n: u16) -> u16
+pub fn one_more(n: u16) -> u16
     ensures { λ r. ⌜ r ≡ oneMore n ⌝ }
 {
     if n < 2 { n + 1 } else { 2 }
 }
 
 // One more where this access is of the kind that is counted.
-fn one_more_if(counts: bool, n: u16) -> u16
+pub fn one_more_if(counts: bool, n: u16) -> u16
     ensures { λ r. ⌜ r ≡ pick counts (oneMore n) n ⌝ }
 {
     if counts { one_more(n) } else { n }

@@ -4,31 +4,23 @@ use mathlib.Core.List.{List, []}
 use lib.Dec.{eqb, ltb, leb}
 use lib.ListN.{getD, take, drop}
 use Rattle.rules.specs.declared.Unit.{Unit}
-use Rattle.rules.specs.declared.Register.{Register}
 use Rattle.rules.specs.declared.Place.{Place}
 use Rattle.rules.specs.Choice.{pick}
 use Rattle.rules.specs.Memory.{Memory}
 use Rattle.rules.specs.Unit.{cellCount, emptyCell}
-use Rattle.rules.specs.Registers.{registerOf, registerWord, peeked}
+use Rattle.rules.specs.Registers.{registerOf}
 use Rattle.rules.specs.Maps.{low9}
+use Rattle.rules.specs.Order.{sourceIn, wordFrom}
 use Rattle.coding.specs.Coding.{waitNumber, isUnit, decoded}
 use Rattle.replies.specs.Replies.{told, noUnit, misshapen}
 
 -- Readings -------------------------------------------------------------------------------------------------------------------------
 
--- what a register reads: KTMR and the scratchpad words from the cells, the others from the rest of the unit
-unfoldable pub registerIn : Unit → Register → ℕ
-registerIn u Register.Ktmr = peeked (u .cells) Register.Ktmr
-registerIn u Register.Ktcs = registerWord (u .core) (u .maps) Register.Ktcs
-registerIn u (Register.Kept i) = registerWord (u .core) (u .maps) (Register.Kept i)
-registerIn u Register.Ktum = registerWord (u .core) (u .maps) Register.Ktum
-registerIn u Register.Ktem = registerWord (u .core) (u .maps) Register.Ktem
-registerIn u (Register.Pad i) = peeked (u .cells) (Register.Pad i)
-
+-- what is read at a place: a register as an access would read it, or nothing
 unfoldable pub placeRead : Unit → Place → ℕ
 placeRead u Place.Memory = misshapen
 placeRead u Place.Window = misshapen
-placeRead u (Place.In g) = told 0 (registerIn u g)
+placeRead u (Place.In g) = told 0 (wordFrom (u .cells) (sourceIn (u .core) (u .maps) g))
 placeRead u Place.Nowhere = misshapen
 
 -- a register by its number in the table of addresses, KTMR 1 to KTEM 10; 0 is the window, and from 11 on are the scratchpad words

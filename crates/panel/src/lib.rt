@@ -1,38 +1,24 @@
 // What a front panel or a debugger reads of the words of a unit, and where a map page lies. Nothing here changes anything.
 use rules::CELLS;
 use rules::Place;
-use rules::Register;
 use rules::Unit;
 ghost use mathlib.Core.Path.{_≡_};
-ghost use Rattle.panel.specs.Panel.{registerIn, placeRead, registerRead, tagRead, wordRead, counterRead, waitRead, pagePlace};
+ghost use Rattle.panel.specs.Panel.{placeRead, registerRead, tagRead, wordRead, counterRead, waitRead, pagePlace};
 
 // The number that says that there is no page.
 const NO_PAGE: usize = 0xffffffffffffffff;
 
-// What a register reads: KTMR and the scratchpad words from the cells, the others from the rest of the unit.
-fn register_in(u: Unit, g: Register) -> u16
-    ensures { λ r. ⌜ r ≡ registerIn u g ⌝ }
+// What is read at a place: a register, or nothing.
+fn place_read(u: Unit, pl: Place) -> u64
+    ensures { λ r. ⌜ r ≡ placeRead u pl ⌝ }
 {
     let c = u.core;
     let maps = u.maps;
     let k = u.cells;
-    match g {
-        Register::Ktmr => cells::peeked(k, Register::Ktmr),
-        Register::Ktcs => registers::register_word(c, maps, Register::Ktcs),
-        Register::Kept(i) => registers::register_word(c, maps, Register::Kept(i)),
-        Register::Ktum => registers::register_word(c, maps, Register::Ktum),
-        Register::Ktem => registers::register_word(c, maps, Register::Ktem),
-        Register::Pad(i) => cells::peeked(k, Register::Pad(i)),
-    }
-}
-
-fn place_read(u: Unit, pl: Place) -> u64
-    ensures { λ r. ⌜ r ≡ placeRead u pl ⌝ }
-{
     match pl {
         Place::Memory => replies::misshapen(),
         Place::Window => replies::misshapen(),
-        Place::In(g) => replies::told(0, register_in(u, g)),
+        Place::In(g) => replies::told(0, cells::word_in(c, maps, k, g)),
         Place::Nowhere => replies::misshapen(),
     }
 }

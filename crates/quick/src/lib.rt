@@ -21,7 +21,7 @@ ghost use Rattle.rules.specs.declared.Maps.{Maps};
 ghost use Rattle.rules.specs.declared.Place.{Place};
 ghost use Rattle.rules.specs.Choice.{pick};
 ghost use Rattle.rules.specs.Registers.{placeOf};
-ghost use Rattle.rules.specs.Fetched.{oneMore, noted, isFetch};
+ghost use Rattle.rules.specs.Fetched.{noted, isFetch};
 ghost use Rattle.rules.specs.Steps.{judged, watches};
 ghost use Rattle.rules.specs.Order.{readAt, wordJudged, transferred, outerTarget, outerRuled, accessed};
 ghost use Rattle.quick.specs.Usual.{isIdle, isPlain, calm, usual, fetchNoted, otherFetch, otherNoted, Sound};
@@ -105,18 +105,6 @@ pub fn usual(len: usize, c: Core, q: Access) -> bool
 
 // Step 4 --------------------------------------------------------------------------------------------------------------
 
-fn one_more(n: u16) -> u16
-    ensures { λ r. ⌜ r ≡ oneMore n ⌝ }
-{
-    if n < 2 { n + 1 } else { 2 }
-}
-
-fn one_more_if(counts: bool, n: u16) -> u16
-    ensures { λ r. ⌜ r ≡ pick counts (oneMore n) n ⌝ }
-{
-    if counts { one_more(n) } else { n }
-}
-
 fn fetch_noted(c: Core, q: Access) -> Core
     ensures { λ r. ⌜ r ≡ fetchNoted c q ⌝ }
 {
@@ -135,8 +123,8 @@ fn other_fetch(f: Fetch, q: Access) -> Fetch
     Fetch {
         newer: f.newer,
         older: f.older,
-        datos: one_more_if(q.op == 2, f.datos),
-        accesses: one_more(f.accesses),
+        datos: fetched::one_more_if(q.op == 2, f.datos),
+        accesses: fetched::one_more(f.accesses),
         public: f.public,
     }
 }

@@ -44,7 +44,7 @@ module _ (m : Memory) (u : Unit) (op : ℕ) where
     unshown : (w : ℕ) (k : Cells) → inCells op (placeOf (length m) at) ≡ false → Reached (f w) k
     unshown w k e = rw (h w k .peeks-none, h w k .stores-none, h w k .physical) (sym e)
 
-    readIn-reached : (g : Register) (k : Cells) → placeOf (length m) at ≡ Place.In g → Reached (readFrom (sourceIn j g) f) k
+    readIn-reached : (g : Register) (k : Cells) → placeOf (length m) at ≡ Place.In g → Reached (readFrom (sourceIn (j .core) (j .maps) g) f) k
     unfolding sourceIn readFrom peeks run
     readIn-reached Register.Ktmr k e = rw (h _ k .physical, e) (sym reads)
     readIn-reached Register.Ktcs k e = unshown _ k (rw e)

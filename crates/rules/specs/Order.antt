@@ -40,19 +40,19 @@ pub data Source : Type 0 where
   in-cells : Register → Source
 
 -- a register: KTMR and the scratchpad words from the cells, the others from the rest of the unit
-unfoldable pub sourceIn : Job → Register → Source
-sourceIn j Register.Ktmr = in-cells Register.Ktmr
-sourceIn j Register.Ktcs = at-hand (registerWord (j .core) (j .maps) Register.Ktcs)
-sourceIn j (Register.Kept i) = at-hand (registerWord (j .core) (j .maps) (Register.Kept i))
-sourceIn j Register.Ktum = at-hand (registerWord (j .core) (j .maps) Register.Ktum)
-sourceIn j Register.Ktem = at-hand (registerWord (j .core) (j .maps) Register.Ktem)
-sourceIn j (Register.Pad i) = in-cells (Register.Pad i)
+unfoldable pub sourceIn : Core → Maps → Register → Source
+sourceIn c r Register.Ktmr = in-cells Register.Ktmr
+sourceIn c r Register.Ktcs = at-hand (registerWord c r Register.Ktcs)
+sourceIn c r (Register.Kept i) = at-hand (registerWord c r (Register.Kept i))
+sourceIn c r Register.Ktum = at-hand (registerWord c r Register.Ktum)
+sourceIn c r Register.Ktem = at-hand (registerWord c r Register.Ktem)
+sourceIn c r (Register.Pad i) = in-cells (Register.Pad i)
 
 -- "Reads give the whole word at the even address." (No read goes to the window or nowhere: step 10 has ruled that out.)
 unfoldable pub sourceAt : Memory → Job → ℕ → Place → Source
 sourceAt m j at Place.Memory = at-hand (wordAt m (evenOf at))
 sourceAt m j at Place.Window = at-hand 0
-sourceAt m j at (Place.In g) = sourceIn j g
+sourceAt m j at (Place.In g) = sourceIn (j .core) (j .maps) g
 sourceAt m j at Place.Nowhere = at-hand 0
 
 -- the read, and what is done with the word

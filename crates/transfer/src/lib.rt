@@ -7,10 +7,9 @@ use rules::Outcome;
 use rules::Part;
 use rules::Place;
 use rules::Ran;
-use rules::Register;
 ghost use mathlib.Core.Path.{_≡_};
 ghost use Rattle.rules.specs.Program.{run};
-ghost use Rattle.rules.specs.Order.{sourceIn, wordFrom, wordRead, storedAt, transferred};
+ghost use Rattle.rules.specs.Order.{wordRead, storedAt, transferred};
 
 // A call that has ended, with the cells as its look-ups left them.
 pub fn ended(o: Outcome, k: Cells) -> Ran
@@ -22,22 +21,6 @@ pub fn ended(o: Outcome, k: Cells) -> Ran
     }
 }
 
-// What a read of a register gives: from the cells for KTMR and the scratchpad words, from the rest of the unit otherwise.
-fn word_in(j: Job, k: Cells, g: Register) -> u16
-    ensures { λ r. ⌜ r ≡ wordFrom k (sourceIn j g) ⌝ }
-{
-    let c = j.core;
-    let maps = j.maps;
-    match g {
-        Register::Ktmr => cells::peeked(k, Register::Ktmr),
-        Register::Ktcs => registers::register_word(c, maps, Register::Ktcs),
-        Register::Kept(i) => registers::register_word(c, maps, Register::Kept(i)),
-        Register::Ktum => registers::register_word(c, maps, Register::Ktum),
-        Register::Ktem => registers::register_word(c, maps, Register::Ktem),
-        Register::Pad(i) => cells::peeked(k, Register::Pad(i)),
-    }
-}
-
 // "Reads give the whole word at the even address."
 pub fn word_read(m: &[u8], j: Job, k: Cells, at: usize, pl: Place) -> u16
     ensures { λ r. ⌜ r ≡ wordRead (now (m .entry)) j k at pl ⌝ }
@@ -45,7 +28,7 @@ pub fn word_read(m: &[u8], j: Job, k: Cells, at: usize, pl: Place) -> u16
     match pl {
         Place::Memory => memory::word_at(m, memory::even_of(at)),
         Place::Window => 0,
-        Place::In(g) => word_in(j, k, g),
+        Place::In(g) => cells::word_in(j.core, j.maps, k, g),
         Place::Nowhere => 0,
     }
 }

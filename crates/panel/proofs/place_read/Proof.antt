@@ -20,8 +20,8 @@ misshapen-requires-2 c κs = search needs
 enum-known-pl : tie.Need-enum-known-pl
 enum-known-pl c = search needs
 
-register-in-requires : tie.Need-register-in-requires
-register-in-requires c κs = search needs
+word-in-requires : tie.Need-word-in-requires
+word-in-requires c κs = search needs
 
 told-requires : tie.Need-told-requires
 told-requires c κs = search needs
@@ -42,7 +42,7 @@ returns-2 c = simp (sym (c .misshapen2 .ensures), c .before .enum-told2 .given .
 
 returns-3 : tie.Need-returns-3
 unfolding placeRead
-returns-3 c = simp (sym (c .told .ensures), sym (c .before .register-in .ensures), c .before .before .before .pl .given .1)
+returns-3 c = simp (sym (c .told .ensures), sym (c .before .word-in .ensures), c .before .before .before .pl .given .1)
 
 returns-4 : tie.Need-returns-4
 unfolding placeRead
@@ -57,7 +57,7 @@ place-read-spec =
     enum-told-2
     misshapen-requires-2
     enum-known-pl
-    register-in-requires
+    word-in-requires
     told-requires
     enum-told-3
     misshapen-requires-3

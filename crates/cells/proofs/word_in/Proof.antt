@@ -1,9 +1,9 @@
--- `transfer::word_in` meets its contract.
+-- `cells::word_in` meets its contract.
 use Rattle.rules.specs.Order.{sourceIn, wordFrom}
 use mathlib.Core.Path.{sym}
 use borrow.Author.Needs.{needs}
-use Rattle.transfer.proofs.word_in.Statement.{statement}
-use Rattle.transfer.proofs.word_in.Tie as tie
+use Rattle.cells.proofs.word_in.Statement.{statement}
+use Rattle.cells.proofs.word_in.Tie as tie
 
 enum-told : tie.Need-enum-told
 enum-told c = search needs
