@@ -14,7 +14,7 @@ ghost use Prim.Native.Nat.{_-_};
 ghost use lib.ListN.{length, getD, set, replicate};
 ghost use Rattle.rules.specs.Unit.{emptyCell, emptied};
 ghost use Rattle.rules.specs.Registers.{foundFrom, peeked, cellStored, padStored};
-ghost use Rattle.rules.specs.Maps.{tagIn, stepped, filled, cellForgotten, forgotten};
+ghost use Rattle.rules.specs.Maps.{tagIn, stepped, filled, holds, cellForgotten, forgotten};
 ghost use Rattle.rules.specs.Order.{sourceIn, wordFrom};
 
 // "Emptying a cell sets its tag and word to 0."
@@ -88,7 +88,7 @@ pub fn filled(k: Cells, tag: u16, word: u16) -> Cells
     }
 }
 
-// Every cell with the tag is emptied, so that nothing rests on a page's being in one cell only.
+// Every cell that holds the page is emptied, so that nothing rests on its being in one cell only.
 fn list_forgotten(mut list: [Cell; CELLS], tag: u16) -> [Cell; CELLS]
     ensures { λ r. ⌜ r ≡ map (cellForgotten tag) list ⌝ }
 {
@@ -101,10 +101,17 @@ fn list_forgotten(mut list: [Cell; CELLS], tag: u16) -> [Cell; CELLS]
     list
 }
 
+// "0 means empty", and exec page 0 has "no cell".
+fn holds(held: Cell, tag: u16) -> bool
+    ensures { λ r. ⌜ r ≡ holds tag held ⌝ }
+{
+    (held.tag == tag) & !(held.tag == 0)
+}
+
 fn cell_forgotten(held: Cell, tag: u16) -> Cell
     ensures { λ r. ⌜ r ≡ cellForgotten tag held ⌝ }
 {
-    if held.tag == tag { EMPTY } else { held }
+    if holds(held, tag) { EMPTY } else { held }
 }
 
 // "the cell of the page at fault .. empties"; the counter stays.

@@ -1,14 +1,16 @@
 -- The cells under a look-up, an emptying and a forgetting, one cell at a time.
 use mathlib.Core.Path.{_≡_, refl, sym, subst, _∙_}
+use mathlib.Core.Bool.{true}
 use mathlib.Core.List.{map}
 use Prim.Native.Nat.{ℕ}
 use native.Mathlib.Omega.{arith}
 use lib.Dec.{eqb}
+use borrow.Author.Tests.{eq-eqb, ne-eqb}
 use lib.ListN.{length, getD, List·getD-map}
 use Rattle.rules.specs.Types.{Cell, Cells, Found}
 use Rattle.rules.specs.Choice.{pick}
 use Rattle.rules.specs.Unit.{emptyCell, emptied}
-use Rattle.rules.specs.Maps.{tagIn, cellOf, cellForgotten, forgotten}
+use Rattle.rules.specs.Maps.{tagIn, cellOf, holds, cellForgotten, forgotten}
 use Rattle.rules.proofs.Choices.{pick-same}
 use Rattle.rules.proofs.Lists.{getD-replicate-default, found-is-there, missing-is-nowhere}
 use Rattle.rules.proofs.Promises.{cellAt}
@@ -40,8 +42,13 @@ unfolding emptied
 cell-emptied k i = getD-replicate-default (length (k .list)) i emptyCell
 
 -- after a forgetting each cell is as it was, or empty where it held the page
-pub cell-forgotten : (k : Cells) (tag i : ℕ) → cellAt (forgotten k tag) i ≡ pick (eqb (cellAt k i .tag) tag) emptyCell (cellAt k i)
+pub cell-forgotten : (k : Cells) (tag i : ℕ) → cellAt (forgotten k tag) i ≡ pick (holds tag (cellAt k i)) emptyCell (cellAt k i)
 unfolding forgotten cellForgotten
 cell-forgotten k tag i =
     subst (λ (d : Cell). getD (map (cellForgotten tag) (k .list)) i d ≡ cellForgotten tag (cellAt k i))
-    (pick-same (eqb (emptyCell .tag) tag) emptyCell) (List·getD-map (cellForgotten tag) (k .list) i emptyCell)
+    (pick-same (holds tag emptyCell) emptyCell) (List·getD-map (cellForgotten tag) (k .list) i emptyCell)
+
+-- a cell with the tag of a page other than exec page 0 holds it
+pub page-held : (tag : ℕ) (h : Cell) → h .tag ≡ tag → (h .tag ≡ 0 → ⊥) → holds tag h ≡ true
+unfolding holds
+page-held tag h e n = simp (eq-eqb _ _ e, ne-eqb _ 0 n)

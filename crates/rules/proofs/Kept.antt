@@ -1,24 +1,24 @@
 -- Field by field, what step 4, step 6, a time-out, a violation and the emptying of a cell leave alone.
 use Prim.Native.Nat.{ℕ, _<_}
-use mathlib.Core.Bool.{Bool, true, false, _&&_, _||_, true≢false, and-eq-true-iff, or-true, or-false}
+use mathlib.Core.Bool.{Bool, true, false, not, _&&_, _||_, true≢false, and-eq-true-iff, or-true, or-false}
 use mathlib.Core.Path.{_≡_, refl, sym, ap, _∙_}
 use mathlib.Core.Logic.{_≢_}
-use mathlib.Core.List.{List, map}
+use mathlib.Core.List.{List, [], _∷_, map}
 use native.Mathlib.Omega.{arith}
 use lib.Dec.{eqb}
 use lib.ListN.{getD, set, length-set, length-map, List·getD-map}
 use lib.Seq.{getD-set-other}
 use borrow.Author.Tests.{eqb-true, ne-eqb}
-use Rattle.rules.specs.Types.{Ktcs, Fetch, Core, Maps, Cell, Cells, Access, Kind, Found, Walk, Entry, Fault}
+use Rattle.rules.specs.Types.{Ktcs, Fetch, Core, Maps, Cell, Cells, Access, Kind, Found, Walk, Entry, Fault, Answer}
 use Rattle.rules.specs.Choice.{pick}
 use Rattle.rules.specs.Memory.{Memory}
 use Rattle.rules.specs.Unit.{emptyCell, withKtcs, withKept, withFetch}
 use Rattle.rules.specs.Status.{withModes, withStates, withFlags, flagsClear}
 use Rattle.rules.specs.Registers.{ktic, ktad, ktdt}
-use Rattle.rules.specs.Maps.{unpaged, execZero, tagOf, cellOf, walkOf, entryOf, filled, filledBy, missed, soughtIn, looked, cellForgotten, forgotten}
-use Rattle.rules.specs.Fetched.{isFetch, isDato, kindOf, counted, normal, destinationOnly, sourceBy, destinationBy, sourceSet, destinationSet, statesMarked, instructionNoted, marked, noted}
+use Rattle.rules.specs.Maps.{unpaged, execZero, tagOf, cellOf, walkOf, entryOf, filled, filledBy, missed, soughtIn, looked, holds, cellForgotten, forgotten}
+use Rattle.rules.specs.Fetched.{isFetch, isDato, kindOf, oneMore, counted, normal, destinationOnly, sourceBy, destinationBy, sourceSet, destinationSet, statesMarked, instructionNoted, marked, noted}
 use Rattle.rules.specs.Sequences.{serviceAwaited, flagged, startEnded, addressKept, linesKept, faultData, violated, timedOut}
-use Rattle.rules.specs.Answers.{shownAs, faultShown}
+use Rattle.rules.specs.Answers.{shownAs, faultShown, shown}
 use Rattle.rules.proofs.Choices.{both-true, picked}
 use Rattle.rules.proofs.Promises.{StatesOnly, Step4Keeps, Step4Leaves, Step6Keeps, Step6Leaves, ViolationKeeps, ForgottenKeeps}
 
@@ -31,19 +31,15 @@ states-only s ss ds = record { fcn = refl; um = refl; iu = refl; rv = refl; pv =
 states-same : (s : Ktcs) → StatesOnly s s
 states-same s = record { fcn = refl; um = refl; iu = refl; rv = refl; pv = refl; wv = refl; av = refl; iv = refl }
 
--- SS and DS as step 4 moves them: not in FCN 0, and a fetch sets neither
+-- SS and DS as step 4 moves them
 record StatesMoved (q : Access) (s t : Ktcs) : Type 0 where
   only : StatesOnly s t
   fetch-ss : isFetch q ≡ true → s .ss ≡ false → t .ss ≡ false
   fetch-ds : isFetch q ≡ true → s .ds ≡ false → t .ds ≡ false
+  fetch-not-normal : isFetch q ≡ true → normal s q ≡ false → t ≡ s
+  ss-stands : isFetch q ≡ false → s .ss ≡ true → t .ss ≡ true
+  ds-stands : isFetch q ≡ false → s .ds ≡ true → t .ds ≡ true
   fcn-zero : s .fcn ≡ 0 → t ≡ s
-
-states-moved :
-    (q : Access) (s : Ktcs) (ss ds : Bool) → (isFetch q ≡ true → (ss ≡ false) × (ds ≡ false)) → (s .fcn ≡ 0 → (ss ≡ s .ss) × (ds ≡ s .ds))
-    → StatesMoved q s (withStates s ss ds)
-unfolding withStates
-states-moved q s ss ds f z =
-    record { only = states-only s ss ds; fetch-ss = λ e n. f e .0; fetch-ds = λ e n. f e .1; fcn-zero = λ e. rw (z e .0, z e .1) }
 
 -- FCN 0 is neither normal nor destination-only paging
 fcn-zero-not-normal : (s : Ktcs) (q : Access) → s .fcn ≡ 0 → (normal s q ≡ false) × (destinationOnly s ≡ false)
@@ -82,14 +78,51 @@ module _ (s : Ktcs) (f : Fetch) (q : Access) where
       let (n, d) = fcn-zero-not-normal s q e in
       rw (n, d, destinationBy-neither (kindOf (f .newer)) (isDato q && eqb (f .datos) 1) (eqb (f .accesses) 1), or-false)
 
+  -- a fetch in normal paging clears both
+  states-cleared : isFetch q ≡ true → normal s q ≡ true → StatesMoved q s (withStates s false false)
+  unfolding withStates
+  states-cleared e n =
+      record {
+        only = states-only s false false;
+        fetch-ss = λ t z. refl;
+        fetch-ds = λ t z. refl;
+        fetch-not-normal = λ t z. absurd (true≢false (sym n ∙ z));
+        ss-stands = λ t z. absurd (true≢false (sym e ∙ t));
+        ds-stands = λ t z. absurd (true≢false (sym e ∙ t));
+        fcn-zero = λ z. absurd (true≢false (sym n ∙ fcn-zero-not-normal s q z .0));
+      }
+
+  states-still : isFetch q ≡ true → StatesMoved q s s
+  states-still e =
+      record {
+        only = states-same s;
+        fetch-ss = λ t z. z;
+        fetch-ds = λ t z. z;
+        fetch-not-normal = λ t z. refl;
+        ss-stands = λ t z. z;
+        ds-stands = λ t z. z;
+        fcn-zero = λ z. refl;
+      }
+
+  -- another access may set them
+  states-set : isFetch q ≡ false → StatesMoved q s (withStates s (s .ss || sourceSet s f q) (s .ds || destinationSet s f q))
+  unfolding withStates
+  states-set e =
+      record {
+        only = states-only s _ _;
+        fetch-ss = λ t z. absurd (true≢false (sym t ∙ e));
+        fetch-ds = λ t z. absurd (true≢false (sym t ∙ e));
+        fetch-not-normal = λ t z. absurd (true≢false (sym t ∙ e));
+        ss-stands = λ t z. rw z;
+        ds-stands = λ t z. rw z;
+        fcn-zero = λ z. rw (source-unset z, destination-unset z);
+      }
+
   statesMarked-keeps : StatesMoved q s (statesMarked s f q)
   unfolding statesMarked
   statesMarked-keeps =
       picked (StatesMoved q s) (isFetch q) _ _
-      (λ e. picked (StatesMoved q s) (normal s q) _ _
-      (λ n. states-moved q s false false (λ t. (refl, refl)) (λ z. absurd (true≢false (sym n ∙ fcn-zero-not-normal s q z .0))))
-      (λ n. record { only = states-same s; fetch-ss = λ t z. z; fetch-ds = λ t z. z; fcn-zero = λ z. refl }))
-      (λ e. states-moved q s _ _ (λ t. absurd (true≢false (sym t ∙ e))) (λ z. (source-unset z, destination-unset z)))
+      (λ e. picked (StatesMoved q s) (normal s q) _ _ (states-cleared e) (λ n. states-still e)) states-set
 
 -- an unpaged access is none of normal paging
 unpaged-fcn : (fcn state : ℕ) (b : Bool) → eqb fcn 0 ≡ b → unpaged fcn state ≡ true → fcn < 2
@@ -107,9 +140,10 @@ module _ (q : Access) (c : Core) where
   -- another fetch memory, which tells itself from the old one by the counts, and not at all after a fetch
   counts-only :
       (f : Fetch) → f .newer ≡ c .fetch .newer → f .older ≡ c .fetch .older → f .public ≡ c .fetch .public
-      → (isFetch q ≡ true → f ≡ c .fetch) → (isDato q ≡ false → f .datos ≡ c .fetch .datos) → Step4Keeps q c (withFetch c f)
+      → (isFetch q ≡ true → f ≡ c .fetch) → (isDato q ≡ false → f .datos ≡ c .fetch .datos)
+      → (c .fetch .datos ≡ 2 → f .datos ≡ 2) → (c .fetch .accesses ≡ 2 → f .accesses ≡ 2) → Step4Keeps q c (withFetch c f)
   unfolding withFetch
-  counts-only f n o p u d =
+  counts-only f n o p u d two two₁ =
       record {
         ktcs = states-same (c .ktcs);
         registers = λ i n. refl;
@@ -117,6 +151,9 @@ module _ (q : Access) (c : Core) where
         unfetched-registers = λ e. refl;
         fetch-ss = λ e z. z;
         fetch-ds = λ e z. z;
+        fetch-not-normal = λ e z. refl;
+        ss-stands = λ e z. z;
+        ds-stands = λ e z. z;
         fcn-zero = λ e. refl;
         flagged-ktcs = λ e. refl;
         flagged-registers = λ e. refl;
@@ -126,13 +163,20 @@ module _ (q : Access) (c : Core) where
         public = p;
         fetch-uncounted = u;
         datos = d;
+        datos-stop = two;
+        accesses-stop = two₁;
       }
 
   counted-keeps : Step4Keeps q c (withFetch c (counted q (c .fetch)))
-  unfolding counted pick
+  unfolding counted oneMore pick
   counted-keeps =
-      picked (λ f. Step4Keeps q c (withFetch c f)) (isFetch q) _ _ (λ e. counts-only _ refl refl refl (λ t. refl) (λ t. refl))
-      (λ e. counts-only _ refl refl refl (λ t. absurd (true≢false (cc))) (λ t. rw t))
+      picked (λ f. Step4Keeps q c (withFetch c f)) (isFetch q) _ _
+      (λ e. counts-only _ refl refl refl (λ t. refl) (λ t. refl) (λ z. z) (λ z. z))
+      (λ e. counts-only _ refl refl refl (λ t. absurd (true≢false (cc))) (λ t. rw t) (stopped (isDato q)) (λ z. rw z))
+    where
+      stopped : (b : Bool) → c .fetch .datos ≡ 2 → pick b (oneMore (c .fetch .datos)) (c .fetch .datos) ≡ 2
+      stopped true z = rw z
+      stopped false z = z
 
   -- KTIC is taken in normal paging only, with the flags clear
   instruction-only :
@@ -147,6 +191,9 @@ module _ (q : Access) (c : Core) where
         unfetched-registers = λ n. absurd (true≢false (cc));
         fetch-ss = h .fetch-ss;
         fetch-ds = h .fetch-ds;
+        fetch-not-normal = h .fetch-not-normal;
+        ss-stands = h .ss-stands;
+        ds-stands = h .ds-stands;
         fcn-zero = h .fcn-zero;
         flagged-ktcs = h .flagged-ktcs;
         flagged-registers = λ n. absurd (true≢false (cc));
@@ -156,6 +203,8 @@ module _ (q : Access) (c : Core) where
         public = h .public;
         fetch-uncounted = h .fetch-uncounted;
         datos = h .datos;
+        datos-stop = h .datos-stop;
+        accesses-stop = h .accesses-stop;
       }
 
   status-keeps :
@@ -169,6 +218,9 @@ module _ (q : Access) (c : Core) where
         unfetched-registers = h .unfetched-registers;
         fetch-ss = t .fetch-ss;
         fetch-ds = t .fetch-ds;
+        fetch-not-normal = t .fetch-not-normal;
+        ss-stands = t .ss-stands;
+        ds-stands = t .ds-stands;
         fcn-zero = t .fcn-zero;
         flagged-ktcs = λ n. absurd (true≢false (cc));
         flagged-registers = h .flagged-registers;
@@ -178,6 +230,8 @@ module _ (q : Access) (c : Core) where
         public = h .public;
         fetch-uncounted = h .fetch-uncounted;
         datos = h .datos;
+        datos-stop = h .datos-stop;
+        accesses-stop = h .accesses-stop;
       }
 
 pub step4-leaves : Step4Leaves
@@ -251,19 +305,19 @@ record FlagsOnly (f : Fault) (s t : Ktcs) : Type 0 where
   um : t .um ≡ s .um
   ss : t .ss ≡ s .ss
   ds : t .ds ≡ s .ds
-  av : t .av ≡ (s .av || eqb (faultShown f .number) 4)
-  rv : t .rv ≡ (s .rv || eqb (faultShown f .number) 5)
-  wv : t .wv ≡ (s .wv || eqb (faultShown f .number) 6)
-  pv : t .pv ≡ (s .pv || eqb (faultShown f .number) 7)
-  iv : t .iv ≡ (s .iv || eqb (faultShown f .number) 8)
+  av : t .av ≡ (s .av || eqb (shown (Answer.Fault f) .number) 4)
+  rv : t .rv ≡ (s .rv || eqb (shown (Answer.Fault f) .number) 5)
+  wv : t .wv ≡ (s .wv || eqb (shown (Answer.Fault f) .number) 6)
+  pv : t .pv ≡ (s .pv || eqb (shown (Answer.Fault f) .number) 7)
+  iv : t .iv ≡ (s .iv || eqb (shown (Answer.Fault f) .number) 8)
 
 -- each flag stands if it stood, or if it is the fault's own
 flagged-sets :
     (s : Ktcs) (f : Fault)
     → flagged s f
-    ≡ withFlags s (s .rv || eqb (faultShown f .number) 5) (s .pv || eqb (faultShown f .number) 7) (s .wv || eqb (faultShown f .number) 6)
-    (s .av || eqb (faultShown f .number) 4) (s .iv || eqb (faultShown f .number) 8)
-unfolding flagged withFlags faultShown shownAs
+    ≡ withFlags s (s .rv || eqb (shown (Answer.Fault f) .number) 5) (s .pv || eqb (shown (Answer.Fault f) .number) 7) (s .wv || eqb (shown (Answer.Fault f) .number) 6)
+    (s .av || eqb (shown (Answer.Fault f) .number) 4) (s .iv || eqb (shown (Answer.Fault f) .number) 8)
+unfolding flagged withFlags shown faultShown shownAs
 flagged-sets s Fault.OddAddress = simp (or-true, or-false)
 flagged-sets s Fault.NoMapWord = simp or-false
 flagged-sets s Fault.NotResident = simp (or-true, or-false)
@@ -308,11 +362,25 @@ violated-keeps c q window f =
 
 empty-forgotten : (tag : ℕ) → cellForgotten tag emptyCell ≡ emptyCell
 unfolding cellForgotten
-empty-forgotten tag = picked (λ (h : Cell). h ≡ emptyCell) (eqb (emptyCell .tag) tag) _ _ (λ e. refl) (λ e. refl)
+empty-forgotten tag = picked (λ (h : Cell). h ≡ emptyCell) (holds tag emptyCell) _ _ (λ e. refl) (λ e. refl)
 
 other-forgotten : (tag : ℕ) (h : Cell) → h .tag ≢ tag → cellForgotten tag h ≡ h
-unfolding cellForgotten pick
+unfolding cellForgotten holds pick
 other-forgotten tag h n = rw (ne-eqb (h .tag) tag n)
+
+-- exec page 0 has no cell
+none-forgotten : (tag : ℕ) (h : Cell) → tag ≡ 0 → cellForgotten tag h ≡ h
+unfolding cellForgotten holds
+none-forgotten tag h e =
+    rw e (picked (λ (c : Cell). c ≡ h) (eqb (h .tag) 0 && not (eqb (h .tag) 0)) _ _ (λ t. absurd (true≢false (both-ways (eqb (h .tag) 0) t))) (λ t. refl))
+  where
+    both-ways : (b : Bool) → (b && not b) ≡ true → true ≡ false
+    both-ways true t = sym t
+    both-ways false t = sym t
+
+none-listed : (tag : ℕ) (hs : List Cell) → tag ≡ 0 → map (cellForgotten tag) hs ≡ hs
+none-listed tag [] e = refl
+none-listed tag (h ∷ hs) e = rw (none-forgotten tag h e, none-listed tag hs e)
 
 pub forgotten-keeps : (k : Cells) (tag : ℕ) → ForgottenKeeps tag k (forgotten k tag)
 unfolding forgotten
@@ -320,6 +388,7 @@ forgotten-keeps k tag =
     record {
       counter = refl;
       count = length-map (k .list) (cellForgotten tag);
+      none = λ e. rw (none-listed tag (k .list) e);
       others =
           λ i n.
           ap (getD (map (cellForgotten tag) (k .list)) i) (sym (empty-forgotten tag))

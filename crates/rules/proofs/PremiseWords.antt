@@ -1,5 +1,5 @@
--- The words of demand 3's premises, which specs/Runs.antt computes along a run, by the steps and the answer of each call. Proved in Goes.antt, Reaches.antt
--- and Histories.antt.
+-- The words of demand 3's premises, which specs/Runs.antt computes along a run, by the steps and the answer of each call. Proved in Goes.antt,
+-- Reaches.antt and Histories.antt.
 use mathlib.Core.Path.{_≡_}
 use mathlib.Core.Bool.{Bool, true, false}
 use mathlib.Core.List.{List, [], _++_}

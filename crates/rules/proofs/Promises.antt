@@ -14,12 +14,12 @@ use Rattle.rules.specs.Unit.{emptyCell, clearFetch}
 use Rattle.rules.specs.Status.{flagsClear}
 use Rattle.rules.specs.Registers.{ktic, ktad, ktdt, placeOf}
 use Rattle.rules.specs.Maps.{unpaged, unpagedAt, pageOf, physicalAt, residentBit, publicBit, writeBit, low9, execZero, execZeroEntry, walkOf, entryOf, tagOf, cellOf, looked, forgotten}
-use Rattle.rules.specs.Fetched.{isFetch, isDato, noted}
+use Rattle.rules.specs.Fetched.{isFetch, isDato, normal, noted}
 use Rattle.rules.specs.Steps.{wellShaped, dueOf, oddWord, watches, forbidden}
 use Rattle.rules.specs.Sequences.{violated, timedOut, trapTwice, vectorListed, idle}
 use Rattle.rules.specs.Order.{wordRead, windowAddr}
 use Rattle.rules.specs.Calls.{After, callOf, freshWith}
-use Rattle.rules.specs.Answers.{faultShown, shown}
+use Rattle.rules.specs.Answers.{shown}
 use Rattle.rules.specs.Runs.{Turn, unitAfter, seenAlong, Station, stationAfter, plainOf, plainAlong, History, noneInUse, isOutdated, meets, historyOf}
 
 -- Demand 1: an access under way ------------------------------------------------------------------------------------------
@@ -212,8 +212,9 @@ pub record StatesOnly (s t : Ktcs) : Type 0 where
   pub av : t .av ≡ s .av
   pub iv : t .iv ≡ s .iv
 
--- Step 4 makes d of the core c. It moves the counts, KTIC, SS and DS: KTIC by a paged fetch alone; SS and DS not in FCN 0, and a fetch sets neither;
--- where an error flag stands, the counts alone; and the counts not by a fetch, that of DATOs by a DATO alone.
+-- Step 4 makes d of the core c. It moves the counts, KTIC, SS and DS: KTIC by a paged fetch alone; SS and DS not in FCN 0; a fetch sets neither, and
+-- leaves both but in normal paging; another access clears neither; where an error flag stands, the counts alone move; the counts not by a fetch, that
+-- of DATOs by a DATO alone, and neither beyond 2.
 pub record Step4Keeps (q : Access) (c d : Core) : Type 0 where
   pub ktcs : StatesOnly (c .ktcs) (d .ktcs)
   pub registers : (i : ℕ) → i ≢ ktic → getD (d .kept) i 0 ≡ getD (c .kept) i 0
@@ -221,6 +222,9 @@ pub record Step4Keeps (q : Access) (c d : Core) : Type 0 where
   pub unfetched-registers : isFetch q ≡ false → d .kept ≡ c .kept
   pub fetch-ss : isFetch q ≡ true → c .ktcs .ss ≡ false → d .ktcs .ss ≡ false
   pub fetch-ds : isFetch q ≡ true → c .ktcs .ds ≡ false → d .ktcs .ds ≡ false
+  pub fetch-not-normal : isFetch q ≡ true → normal (c .ktcs) q ≡ false → d .ktcs ≡ c .ktcs
+  pub ss-stands : isFetch q ≡ false → c .ktcs .ss ≡ true → d .ktcs .ss ≡ true
+  pub ds-stands : isFetch q ≡ false → c .ktcs .ds ≡ true → d .ktcs .ds ≡ true
   pub fcn-zero : c .ktcs .fcn ≡ 0 → d .ktcs ≡ c .ktcs
   pub flagged-ktcs : flagsClear (c .ktcs) ≡ false → d .ktcs ≡ c .ktcs
   pub flagged-registers : flagsClear (c .ktcs) ≡ false → d .kept ≡ c .kept
@@ -230,6 +234,8 @@ pub record Step4Keeps (q : Access) (c d : Core) : Type 0 where
   pub public : d .fetch .public ≡ c .fetch .public
   pub fetch-uncounted : isFetch q ≡ true → d .fetch ≡ c .fetch
   pub datos : isDato q ≡ false → d .fetch .datos ≡ c .fetch .datos
+  pub datos-stop : c .fetch .datos ≡ 2 → d .fetch .datos ≡ 2
+  pub accesses-stop : c .fetch .accesses ≡ 2 → d .fetch .accesses ≡ 2
 
 abbrev pub Step4Leaves : Type 0
 Step4Leaves = (c : Core) (q : Access) → Step4Keeps q c (noted c q)
@@ -284,21 +290,22 @@ pub record ViolationKeeps (q : Access) (window : Bool) (f : Fault) (c d : Core) 
   pub iu : d .ktcs .iu ≡ c .ktcs .um
   pub ss : d .ktcs .ss ≡ noted c q .ktcs .ss
   pub ds : d .ktcs .ds ≡ noted c q .ktcs .ds
-  pub av : d .ktcs .av ≡ (c .ktcs .av || eqb (faultShown f .number) 4)
-  pub rv : d .ktcs .rv ≡ (c .ktcs .rv || eqb (faultShown f .number) 5)
-  pub wv : d .ktcs .wv ≡ (c .ktcs .wv || eqb (faultShown f .number) 6)
-  pub pv : d .ktcs .pv ≡ (c .ktcs .pv || eqb (faultShown f .number) 7)
-  pub iv : d .ktcs .iv ≡ (c .ktcs .iv || eqb (faultShown f .number) 8)
+  pub av : d .ktcs .av ≡ (c .ktcs .av || eqb (shown (Answer.Fault f) .number) 4)
+  pub rv : d .ktcs .rv ≡ (c .ktcs .rv || eqb (shown (Answer.Fault f) .number) 5)
+  pub wv : d .ktcs .wv ≡ (c .ktcs .wv || eqb (shown (Answer.Fault f) .number) 6)
+  pub pv : d .ktcs .pv ≡ (c .ktcs .pv || eqb (shown (Answer.Fault f) .number) 7)
+  pub iv : d .ktcs .iv ≡ (c .ktcs .iv || eqb (shown (Answer.Fault f) .number) 8)
   pub instruction : getD (d .kept) ktic 0 ≡ getD (noted c q .kept) ktic 0
   pub registers : (i : ℕ) → i ≢ ktic → i ≢ ktad → i ≢ ktdt → getD (d .kept) i 0 ≡ getD (c .kept) i 0
   pub inner-address : window ≡ true → getD (d .kept) ktad 0 ≡ getD (c .kept) ktad 0
   pub wait : d .wait ≡ Wait.StatusDue
   pub fetch : d .fetch ≡ clearFetch
 
--- Emptying the cell of the page at fault makes l of the cells k: the counter and the cells of other pages stay.
+-- Emptying the cell of the page at fault makes l of the cells k: the counter and the cells of other pages stay, and all where the page has none.
 pub record ForgottenKeeps (tag : ℕ) (k l : Cells) : Type 0 where
   pub counter : l .counter ≡ k .counter
   pub count : length (l .list) ≡ length (k .list)
+  pub none : tag ≡ 0 → l ≡ k
   pub others : (i : ℕ) → cellAt k i .tag ≢ tag → cellAt l i ≡ cellAt k i
 
 -- whether the page at fault is a window's inner one: all tests of the access's own page pass

@@ -1,6 +1,6 @@
 -- The invariant of a run that meets the premises, and how a look-up and an effect keep it.
 use mathlib.Core.Path.{_≡_, refl, sym, ap, subst, _∙_}
-use mathlib.Core.Bool.{Bool, true, false}
+use mathlib.Core.Bool.{Bool, true, false, true≢false}
 use mathlib.Core.List.{[], _∷_}
 use Prim.Native.Nat.{ℕ, _-_, _<_}
 use lib.Dec.{eqb}
@@ -8,7 +8,7 @@ use borrow.Author.Tests.{eqb-true, eqb-false, not-true}
 use Rattle.rules.specs.Types.{Maps, Cell, Cells, Found, Walk, Entry, Effect}
 use Rattle.rules.specs.Memory.{Memory, evenOf, storeWord, storeByte}
 use Rattle.rules.specs.Unit.{emptyCell, emptied}
-use Rattle.rules.specs.Maps.{execZero, execZeroEntry, walkOf, entryOf, walked, tagOf, cellOf, filled, filledBy, missed, soughtIn, looked, forgotten}
+use Rattle.rules.specs.Maps.{execZero, execZeroEntry, walkOf, entryOf, walked, tagOf, cellOf, filled, filledBy, missed, soughtIn, looked, holds, forgotten}
 use Rattle.rules.specs.Calls.{mapsAfter, cellsAfter, memoryAfter}
 use Rattle.rules.specs.Runs.{visit, Use, unused, History, usedBy, told, inUseAfter, struck, historyAfter, isOutdated, noneOutdated, storesPad}
 use Rattle.rules.proofs.Choices.{true-is-not-false, both-true, picked, pick-true, pick-false}
@@ -17,7 +17,7 @@ use Rattle.rules.proofs.Walks.{DifferAt, walk-spared, byte-stored-diffe
 use Rattle.rules.proofs.Pages.{same-user, same-page, tag-other}
 use Rattle.rules.proofs.Uses.{Live, Held, used-live, used-held, held-used, held-true, struck-live, struck-held}
 use Rattle.rules.proofs.Always.{EvenStore}
-use Rattle.rules.proofs.CellsLaws.{empty-tag, found-has-tag, cell-emptied, cell-forgotten}
+use Rattle.rules.proofs.CellsLaws.{empty-tag, found-has-tag, cell-emptied, cell-forgotten, page-held}
 use Rattle.rules.proofs.Promises.{cellAt}
 
 -- every page's use agrees with its walk
@@ -140,12 +140,13 @@ emptied-sound m r k =
     record { live = λ user p b. Live.idle; held = λ i. subst (Holds m r (λ t. unused)) (sym (cell-emptied k i)) (empty-holds m r (λ t. unused)) }
 
 module _ (m : Memory) (r : Maps) (k : Cells) (h : History) (tag : ℕ) (s : Sound m r k h) where
-  -- a cell that has another tag than the one forgotten holds what it held
-  other-holds : (c : Cell) → Holds m r h c → eqb (c .tag) tag ≡ false → Holds m r (told h tag unused) c
+  -- a cell that does not hold the page which is forgotten holds what it held
+  other-holds : (c : Cell) → Holds m r h c → holds tag c ≡ false → Holds m r (told h tag unused) c
   unfolding told
   other-holds c o n user p b x e =
       picked (Held (walkOf m r user p) (c .word)) (eqb (tagOf user p) tag) _ _
-      (λ t. absurd (eqb-false (c .tag) tag n (e ∙ eqb-true (tagOf user p) tag t))) (λ t. o user p b x e)
+      (λ t. absurd (true≢false (sym (page-held tag c (e ∙ eqb-true (tagOf user p) tag t) (λ z. tag-other user p x (sym e ∙ z))) ∙ n)))
+      (λ t. o user p b x e)
 
   forgotten-sound : Sound m r (forgotten k tag) (told h tag unused)
   unfolding told
@@ -154,7 +155,7 @@ module _ (m : Memory) (r : Maps) (k : Cells) (h : History) (tag : ℕ) (s : Soun
         live = λ user p b. picked (Live (walkOf m r user p)) (eqb (tagOf user p) tag) _ _ (λ t. Live.idle) (λ t. s .live user p b);
         held = λ i.
             subst (Holds m r (told h tag unused)) (sym (cell-forgotten k tag i))
-            (picked (Holds m r (told h tag unused)) (eqb (cellAt k i .tag) tag) _ _ (λ t. empty-holds m r (told h tag unused))
+            (picked (Holds m r (told h tag unused)) (holds tag (cellAt k i)) _ _ (λ t. empty-holds m r (told h tag unused))
             (λ t. other-holds (cellAt k i) (s .held i) t));
       }
 

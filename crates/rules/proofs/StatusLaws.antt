@@ -7,6 +7,7 @@ use native.Mathlib.Nat.{div-div-eq-div-mul}
 use lib.Dec.{eqb}
 use borrow.Author.Tests.{eq-eqb, ne-eqb, eqb-true, eqb-false}
 use Rattle.rules.specs.Types.{Ktcs}
+use Rattle.rules.specs.Choice.{pick}
 use Rattle.rules.specs.Status.{bitOf, bitIn, packed, unpacked}
 
 -- a bit's worth, as a number that is 0 or 1
@@ -19,7 +20,7 @@ one-small true = omega arith
 one-small false = omega arith
 
 bitOf-one : (b : Bool) (v : ℕ) → bitOf b v ≡ v * one b
-unfolding bitOf
+unfolding bitOf pick
 bitOf-one true v = omega arith
 bitOf-one false v = omega arith
 

@@ -12,7 +12,7 @@ use Rattle.rules.specs.Types.{Maps, Cell, Cells, Unit, Call, Found, Part
 use Rattle.rules.specs.Memory.{Memory}
 use Rattle.rules.specs.Unit.{zeroUnit, emptyCell, emptied}
 use Rattle.rules.specs.Registers.{cellStored, padStored}
-use Rattle.rules.specs.Maps.{execZero, walkOf, tagOf, tagIn, cellOf, stepped, filled, filledBy, missed, soughtIn, looked, cellForgotten, forgotten}
+use Rattle.rules.specs.Maps.{execZero, walkOf, tagOf, tagIn, cellOf, stepped, filled, filledBy, missed, soughtIn, looked, holds, cellForgotten, forgotten}
 use Rattle.rules.specs.Program.{Prog, run}
 use Rattle.rules.specs.Order.{outcome}
 use Rattle.rules.specs.Calls.{called, initOf, cellsAfter, settled, callOf, freshWith}
@@ -90,12 +90,12 @@ module _ (n : ℕ) where
         }
       where
         fit : (i : ℕ) → CellFit (cellAt (forgotten k tag) i)
-        fit i = rw (cell-forgotten k tag i) (picked CellFit (eqb (cellAt k i .tag) tag) _ _ (λ t. emptyCell-fit) (λ t. cell-fit i))
+        fit i = rw (cell-forgotten k tag i) (picked CellFit (holds tag (cellAt k i)) _ _ (λ t. emptyCell-fit) (λ t. cell-fit i))
 
         same : (i : ℕ) → (cellAt (forgotten k tag) i .tag ≡ 0 → ⊥) → cellAt (forgotten k tag) i .tag ≡ cellAt k i .tag
         same i =
             rw (cell-forgotten k tag i)
-            (picked (λ (c : Cell). (c .tag ≡ 0 → ⊥) → c .tag ≡ cellAt k i .tag) (eqb (cellAt k i .tag) tag) _ _
+            (picked (λ (c : Cell). (c .tag ≡ 0 → ⊥) → c .tag ≡ cellAt k i .tag) (holds tag (cellAt k i)) _ _
             (λ t z. absurd (z empty-tag)) (λ t z. refl))
 
     padStored-fit : (i : ℕ) (p : Part) (v : ℕ) → CellsFit n (padStored k i p v)

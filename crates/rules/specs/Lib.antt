@@ -1,4 +1,4 @@
--- The rules of document 01 as definitions, a file for each of its subjects, in its order.
+-- The rules of document 01 as definitions, a file for each subject; a file stands on those above it. docs/RULES.md leads to them in 01's order.
 pub mod Types
 pub mod Choice
 pub mod Memory

@@ -94,7 +94,8 @@ userWalk m r p =
 unfoldable pub walkOf : Memory → Maps → Bool → ℕ → Walk
 walkOf m r user p = pick user (userWalk m r p) (execWalk m r p)
 
--- "Its map words are those the walk read, pointer included.": their addresses
+-- "Its map words are those the walk read, pointer included.": their addresses. (A walk that runs off brings no page into use, so that none are asked
+-- for.)
 unfoldable pub readsOf : Walk → List ℕ
 readsOf (Walk.Direct w at) = at ∷ []
 readsOf (Walk.Pointed w from at) = from ∷ at ∷ []
@@ -159,9 +160,13 @@ unfoldable pub looked : Memory → Maps → Bool → ℕ → Cells → Looked
 looked m r user p k =
     pick (execZero user p) (record { entry = execZeroEntry r; cells = k }) (soughtIn m r user p k (cellOf k (tagOf user p)))
 
--- one cell, emptied if it holds the page; an empty one is empty as it was, which is all that exec page 0, whose tag is 0, can meet
+-- whether a cell holds the page with this tag: "0 means empty", and exec page 0, whose tag that is, has "no cell"
+unfoldable pub holds : ℕ → Cell → Bool
+holds tag h = eqb (h .tag) tag && not (eqb (h .tag) 0)
+
+-- one cell, emptied if it holds the page
 unfoldable pub cellForgotten : ℕ → Cell → Cell
-cellForgotten tag h = pick (eqb (h .tag) tag) emptyCell h
+cellForgotten tag h = pick (holds tag h) emptyCell h
 
 -- "the cell of the page at fault .. empties"; the counter stays
 unfoldable pub forgotten : Cells → ℕ → Cells

@@ -209,7 +209,7 @@ pagedFrom m j =
 
 -- The whole --------------------------------------------------------------------------------------------------------------
 
--- a sequence access, an interrupt or a trap that is taken: answer 0, no physical address, "Memory and cells stay."
+-- a sequence access, an interrupt or a trap, accepted: answer 0, no physical address, "Memory and cells stay."
 unfoldable pub sequenced : ℕ → Core → Prog
 sequenced w c = done (outcome (Answer.Taken w) c Effect.Keep)
 

@@ -82,12 +82,12 @@ pub record Visit : Type 0 where
   pub tag : ℕ
   pub walk : Walk
 
--- "A window's access goes to its outer page and, once reached, to its inner one.": the pages whose entry was asked for (step 6). An odd address is
--- refused before that, and goes to no page, though the page is at fault and is forgotten.
--- Exec page 0 has no map words that could be stored into, so it is left out.
+-- A page that is gone to. Exec page 0 has no map words that could be stored into, so it is left out.
 unfoldable pub visit : Memory → Maps → Bool → ℕ → List Visit
 visit m r user p = pick (execZero user p) [] (record { tag = tagOf user p; walk = walkOf m r user p } ∷ [])
 
+-- "A window's access goes to its outer page and, once reached, to its inner one.": the pages whose entry was asked for (step 6). An odd address is
+-- refused before that, and goes to no page, though the page is at fault and is forgotten.
 unfoldable pub visitsOf : Memory → Maps → Prog → Cells → List Visit
 visitsOf m r (done o) k = []
 visitsOf m r (ask user p f) k =

@@ -1,4 +1,4 @@
--- What a refusal, an interrupt, a trap and the sequence accesses do to the core (01, "Sequences").
+-- What answers 4 to 9, an interrupt, a trap and the sequence accesses do to the core (01, "Sequences").
 use Prim.Native.Nat.{ℕ}
 use mathlib.Core.Bool.{Bool, true, false, not, _&&_}
 use mathlib.Core.List.{List}
@@ -52,7 +52,7 @@ faultData q (Fault.Forbidden w at) = w
 unfoldable pub addressKept : List ℕ → Bool → ℕ → List ℕ
 addressKept kept inner a = pick inner kept (set kept ktad a)
 
--- KTAD and KTDT after a refusal
+-- KTAD and KTDT after answers 4 to 9
 unfoldable pub linesKept : List ℕ → Bool → ℕ → ℕ → List ℕ
 linesKept kept inner a d = set (addressKept kept inner a) ktdt d
 
@@ -102,7 +102,7 @@ isTrap Kind.Privileged = false
 isTrap Kind.EntryPoint = false
 isTrap Kind.Other = false
 
--- "the last two fetched words are .. both TRAP"
+-- whether the last two fetched words are both TRAP
 unfoldable pub trapTwice : Fetch → Bool
 trapTwice f = isTrap (kindOf (f .newer)) && isTrap (kindOf (f .older))
 

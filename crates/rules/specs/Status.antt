@@ -3,11 +3,11 @@ use Prim.Native.Nat.{ℕ, _+_, _/_, _%_}
 use mathlib.Core.Bool.{Bool, true, false, not, _||_}
 use lib.Dec.{eqb}
 use Rattle.rules.specs.Types.{Ktcs, Part}
+use Rattle.rules.specs.Choice.{pick}
 
 -- the value of one bit
 unfoldable pub bitOf : Bool → ℕ → ℕ
-bitOf true v = v
-bitOf false v = 0
+bitOf b v = pick b v 0
 
 -- the bit whose value is v, out of a word
 unfoldable pub bitIn : ℕ → ℕ → Bool

@@ -33,7 +33,7 @@ clearKtcs =
 unfoldable pub clearFetch : Fetch
 clearFetch = record { newer = 0; older = 0; datos = 0; accesses = 0; public = false }
 
--- A part of the core is changed by one of these, so that what stays is plain.
+-- One part of the core is changed by one of these, so that what stays is plain. (The sequences, which move the wait too, write the core out.)
 unfoldable pub withKtcs : Core → Ktcs → Core
 withKtcs c s = record { ktcs = s; kept = c .kept; wait = c .wait; fetch = c .fetch }
 

@@ -1,5 +1,5 @@
 // The types that everything speaks of: the unit's state, its calls and answers, and what the steps of an access hand on.
-// There is no code here. What these types mean is said in specs/, in the order of document 01.
+// There is no code here. What these types mean is said in specs/; docs/RULES.md leads there from each sentence of document 01.
 
 // The unit and its calls -----------------------------------------------------------------------------------------------
 
@@ -166,7 +166,7 @@ pub enum Part {
 
 // From address to entry ------------------------------------------------------------------------------------------------
 
-// What a walk of the maps comes to, with the addresses of the words that it read.
+// What a walk of the maps comes to; one that ends, with the addresses of the words that it read.
 pub enum Walk {
     // The map word and where it stands.
     Direct(u16, usize),

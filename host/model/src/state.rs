@@ -223,8 +223,11 @@ impl Unit {
         self.counter = FIRST_CELL;
     }
 
-    /// Empties the cell that holds this tag, if one does; the counter stays.
+    /// Empties the cell that holds the page with this tag, if one does; the counter stays. Exec page 0, whose tag means empty, has no cell.
     pub(crate) fn empty_cell(&mut self, tag: u8) {
+        if tag == 0 {
+            return;
+        }
         if let Some(cell) = self.tags.iter().position(|&held| held == tag) {
             self.tags[cell] = 0;
             self.words[cell] = 0;
