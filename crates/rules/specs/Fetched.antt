@@ -83,9 +83,9 @@ destinationSet s f q =
     ((normal s q || destinationOnly s) && eqb (q .state) 2)
     || destinationBy (kindOf (f .newer)) (normal s q) (destinationOnly s) (isDato q && eqb (f .datos) 1) (eqb (f .accesses) 1)
 
--- SS and DS, where the flags are clear: a fetch in normal paging clears both (source 3.3.2.1: "It is cleared whenever the processor does any bus
--- operation while in the "FETCH" state during normal paging if all the error flags are clear."; DS "is cleared whenever the source state bit
--- is cleared"; "a fetch sets neither bit (H)"), and another access may set them
+-- SS and DS, where the flags are clear. A fetch in normal paging clears both: "It is cleared whenever the processor does any bus operation while in the
+-- "FETCH" state during normal paging if all the error flags are clear.", and DS "is cleared whenever the source state bit is cleared" (source
+-- 3.3.2.1). "a fetch sets neither bit (H)", and another access may set them.
 unfoldable pub statesMarked : Ktcs → Fetch → Access → Ktcs
 statesMarked s f q =
     pick (isFetch q) (pick (normal s q) (withStates s false false) s)
