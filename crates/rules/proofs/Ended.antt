@@ -24,7 +24,7 @@ use Rattle.rules.proofs.Ways.{Way, misshapen, late, status-stored, prog
 use Rattle.rules.proofs.Ways.{Why, access, interrupt-late, interrupt-taken, unlisted, trap-late, trap-taken, init, Stored, nothing, word, byte, StoredOnly}
 use Rattle.rules.proofs.Why.{why}
 use Rattle.rules.proofs.InOrder.{granted-paged, inner-granted-paged, fault-paged, inside-so, tag-so, cells-so}
-use Rattle.rules.proofs.Kept.{step4-leaves, timed-out-registers, violated-keeps, forgotten-keeps}
+use Rattle.rules.proofs.Kept.{step4-leaves, timed-out-count, timed-out-registers, violated-keeps, forgotten-keeps}
 
 data Ended (m : Memory) (u : Unit) : Call → Ran → Type 0 where
   as-it-was : {c : Call} {a : Answer} → shown a .number < 4 → Ended m u c (unchanged u a)
@@ -167,6 +167,7 @@ module _ {m : Memory} {u : Unit} where
         maps = refl;
         cells = refl;
         ktcs = refl;
+        count = timed-out-count (u .core) q;
         registers = timed-out-registers (u .core) q e;
         wait = step4-leaves (u .core) q .wait;
         fetch = refl;

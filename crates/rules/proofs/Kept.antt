@@ -6,7 +6,7 @@ use mathlib.Core.Logic.{_≢_}
 use mathlib.Core.List.{List, [], _∷_, map}
 use native.Mathlib.Omega.{arith}
 use lib.Dec.{eqb}
-use lib.ListN.{getD, set, length-set, length-map, List·getD-map}
+use lib.ListN.{length, getD, set, length-set, length-map, List·getD-map}
 use lib.Seq.{getD-set-other}
 use borrow.Author.Tests.{eqb-true, ne-eqb}
 use Rattle.rules.specs.Types.{Ktcs, Fetch, Core, Maps, Cell, Cells, Access, Kind, Found, Walk, Entry, Fault, Answer}
@@ -146,6 +146,7 @@ module _ (q : Access) (c : Core) where
   counts-only f n o p u d two two₁ =
       record {
         ktcs = states-same (c .ktcs);
+        count = refl;
         registers = λ i n. refl;
         unpaged-registers = λ e. refl;
         unfetched-registers = λ e. refl;
@@ -186,6 +187,7 @@ module _ (q : Access) (c : Core) where
   instruction-only d clear f e h =
       record {
         ktcs = h .ktcs;
+        count = length-set (d .kept) ktic (q .addr) ∙ h .count;
         registers = λ i n. rw getD-set-other (h .registers i n);
         unpaged-registers = λ n. let no : normal (c .ktcs) q ≡ false = unpaged-not-normal (c .ktcs) q n in absurd (true≢false (cc));
         unfetched-registers = λ n. absurd (true≢false (cc));
@@ -213,6 +215,7 @@ module _ (q : Access) (c : Core) where
   status-keeps d s clear t h =
       record {
         ktcs = t .only;
+        count = h .count;
         registers = h .registers;
         unpaged-registers = h .unpaged-registers;
         unfetched-registers = h .unfetched-registers;
@@ -292,6 +295,16 @@ inner-lines-keep : (kept : List ℕ) (window : Bool) (a d : ℕ) → window ≡ 
 unfolding linesKept addressKept pick
 inner-lines-keep kept window a d e = let n : ktad ≢ ktdt = omega arith in rw (e, getD-set-other)
 
+lines-count : (kept : List ℕ) (window : Bool) (a d : ℕ) → length (linesKept kept window a d) ≡ length kept
+unfolding linesKept addressKept
+lines-count kept window a d =
+    length-set (addressKept kept window a) ktdt d
+    ∙ picked (λ (l : List ℕ). length l ≡ length kept) window kept (set kept ktad a) (λ e. refl) (λ e. length-set kept ktad a)
+
+pub timed-out-count : (c : Core) (q : Access) → length (timedOut (noted c q) q .kept) ≡ length (c .kept)
+unfolding timedOut withKept
+timed-out-count c q = lines-count (noted c q .kept) false _ _ ∙ step4-leaves c q .count
+
 -- a time-out of an unpaged access leaves every register but KTAD and KTDT
 pub timed-out-registers :
     (c : Core) (q : Access) → unpaged (c .ktcs .fcn) (q .state) ≡ true → (i : ℕ) → i ≢ ktad → i ≢ ktdt
@@ -350,6 +363,7 @@ violated-keeps c q window f =
       wv = s .wv ∙ rw (h .ktcs .wv);
       av = s .av ∙ rw (h .ktcs .av);
       iv = s .iv ∙ rw (h .ktcs .iv);
+      count = lines-count (noted c q .kept) window (q .addr) (faultData q f) ∙ h .count;
       instruction = lines ktic (omega arith) (omega arith);
       registers = λ i n n₁ n₂. lines i n₁ n₂ ∙ h .registers i n;
       inner-address =

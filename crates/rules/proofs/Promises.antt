@@ -214,9 +214,10 @@ pub record StatesOnly (s t : Ktcs) : Type 0 where
 
 -- Step 4 makes d of the core c. It moves the counts, KTIC, SS and DS: KTIC by a paged fetch alone; SS and DS not in FCN 0; a fetch sets neither, and
 -- leaves both but in normal paging; another access clears neither; where an error flag stands, the counts alone move; the counts not by a fetch, that
--- of DATOs by a DATO alone, and neither beyond 2.
+-- of DATOs by a DATO alone, and a count that is 2 stays so.
 pub record Step4Keeps (q : Access) (c d : Core) : Type 0 where
   pub ktcs : StatesOnly (c .ktcs) (d .ktcs)
+  pub count : length (d .kept) ≡ length (c .kept)
   pub registers : (i : ℕ) → i ≢ ktic → getD (d .kept) i 0 ≡ getD (c .kept) i 0
   pub unpaged-registers : unpaged (c .ktcs .fcn) (q .state) ≡ true → d .kept ≡ c .kept
   pub unfetched-registers : isFetch q ≡ false → d .kept ≡ c .kept
@@ -270,6 +271,7 @@ pub record UnpagedTimeOut (u : Unit) (q : Access) (a : After) : Type 0 where
   pub maps : a .reply .unit .maps ≡ u .maps
   pub cells : a .reply .unit .cells ≡ u .cells
   pub ktcs : a .reply .unit .core .ktcs ≡ noted (u .core) q .ktcs
+  pub count : length (a .reply .unit .core .kept) ≡ length (u .core .kept)
   pub registers : (i : ℕ) → i ≢ ktad → i ≢ ktdt → getD (a .reply .unit .core .kept) i 0 ≡ getD (u .core .kept) i 0
   pub wait : a .reply .unit .core .wait ≡ u .core .wait
   pub fetch : a .reply .unit .core .fetch ≡ noted (u .core) q .fetch
@@ -295,6 +297,7 @@ pub record ViolationKeeps (q : Access) (window : Bool) (f : Fault) (c d : Core) 
   pub wv : d .ktcs .wv ≡ (c .ktcs .wv || eqb (shown (Answer.Fault f) .number) 6)
   pub pv : d .ktcs .pv ≡ (c .ktcs .pv || eqb (shown (Answer.Fault f) .number) 7)
   pub iv : d .ktcs .iv ≡ (c .ktcs .iv || eqb (shown (Answer.Fault f) .number) 8)
+  pub count : length (d .kept) ≡ length (c .kept)
   pub instruction : getD (d .kept) ktic 0 ≡ getD (noted c q .kept) ktic 0
   pub registers : (i : ℕ) → i ≢ ktic → i ≢ ktad → i ≢ ktdt → getD (d .kept) i 0 ≡ getD (c .kept) i 0
   pub inner-address : window ≡ true → getD (d .kept) ktad 0 ≡ getD (c .kept) ktad 0
@@ -308,7 +311,7 @@ pub record ForgottenKeeps (tag : ℕ) (k l : Cells) : Type 0 where
   pub none : tag ≡ 0 → l ≡ k
   pub others : (i : ℕ) → cellAt k i .tag ≢ tag → cellAt l i ≡ cellAt k i
 
--- whether the page at fault is a window's inner one: all tests of the access's own page pass
+-- of an access that steps 5 to 11 refuse, whether the page at fault is a window's inner one: all tests of its own page pass
 abbrev pub faultInside : Memory → Unit → Access → Bool
 faultInside m u q = allPass (outerTests m u q)
 
@@ -427,7 +430,7 @@ pub record ExecZeroUncelled : Type 0 where
   pub tag-other : (user : Bool) (p : ℕ) → execZero user p ≡ false → tagOf user p ≢ 0
   pub look-up : (m : Memory) (r : Maps) (k : Cells) → looked m r false 0 k ≡ record { entry = execZeroEntry r; cells = k }
 
--- Demand 3, second part: on the premises ---------------------------------------------------------------------------------
+-- Demand 3, second part: on the premises, which `meets` of specs/Runs.antt computes (Premises.antt has runs that meet them) ------
 
 -- a cell that holds what the walk of its page now gives, so that this walk does not time out
 pub record HoldsItsPage (m : Memory) (r : Maps) (c : Cell) : Type 0 where

@@ -15,7 +15,8 @@ faultShown Fault.NotPublic = shownAs 7 0 Physical.Nowhere
 faultShown Fault.NoTarget = shownAs 9 0 Physical.Nowhere
 faultShown (Fault.Forbidden w at) = shownAs 8 w (Physical.At at)
 
--- 01's table, and below it "Answers 0 and 8 of an access give the physical address ..; sequence accesses, the other calls and the other answers give none."
+-- 01's table, and below it "Answers 0 and 8 of an access give the physical address ..; sequence accesses, the other calls and the other answers give
+-- none."
 unfoldable pub shown : Answer → Shown
 shown (Answer.Done w at) = shownAs 0 w (Physical.At at)
 shown (Answer.Taken w) = shownAs 0 w Physical.Nowhere
