@@ -1,5 +1,6 @@
 // The types that everything speaks of: the unit's state, its calls and answers, and what the steps of an access hand on.
-// There is no code here. What these types mean is said in specs/; docs/RULES.md leads there from each sentence of document 01.
+// There is no code here. What these types mean is said in specs/; docs/RULES.md leads there from each sentence of document 01 that rules
+// something.
 
 // The unit and its calls -----------------------------------------------------------------------------------------------
 

@@ -48,7 +48,7 @@ pub fn program_counter_stored(c: Core, a: u16, v: u16) -> Core
 
 // The two START reads --------------------------------------------------------------------------------------------------
 
-// "They give KTPC, then KTPS, address ignored"
+// After the first, the second is due.
 pub fn first_read_done(c: Core) -> Core
     ensures { λ r. ⌜ r ≡ firstReadDone c ⌝ }
 {
@@ -109,7 +109,7 @@ fn is_trap(k: Kind) -> bool
     }
 }
 
-// "the last two fetched words are .. both TRAP"
+// Whether the last two fetched words are both TRAP.
 pub fn trap_twice(f: Fetch) -> bool
     ensures { λ r. ⌜ r ≡ trapTwice f ⌝ }
 {

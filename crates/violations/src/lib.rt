@@ -1,4 +1,4 @@
-// What a refusal does to the core: its flag, KTAD and KTDT, and leaving user mode (01, "Sequences").
+// What answers 4 to 9 do to the core: the flag, KTAD and KTDT, and the wait for SERVICE (01, "Sequences").
 ghost use mathlib.Core.Path.{_≡_};
 ghost use lib.Dec.{eqb};
 ghost use Rattle.rules.specs.Choice.{pick};
