@@ -1,15 +1,21 @@
--- A unit stays a unit: what a fresh unit becomes by calls of the rules is never refused for its words.
-use Prim.Native.Nat.{_/_, _<_}
+-- A unit stays a unit: no call of the rules makes words that are a unit into words that are refused.
+use Prim.Native.Nat.{ℕ, _/_, _<_}
 use mathlib.Core.Path.{_≡_, refl}
 use mathlib.Core.Bool.{Bool, true, false}
+use mathlib.Core.List.{List}
 use native.Mathlib.Omega.{arith}
 use borrow.Author.Tests.{eq-eqb, lt-ltb}
 use Rattle.rules.specs.declared.Wait.{Wait}
 use Rattle.rules.specs.declared.Unit.{Unit}
+use Rattle.rules.specs.declared.Call.{Call}
+use Rattle.rules.specs.Memory.{Memory}
 use Rattle.rules.specs.Unit.{cellCount}
+use Rattle.rules.specs.Calls.{callOf}
 use Rattle.rules.proofs.StatusLaws.{packed-zeros}
 use Rattle.rules.proofs.Promises.{UnitFit}
-use Rattle.coding.specs.Coding.{waitNumber, flagNumber, isUnit, coreWords, cellWords, cellsWords, coded}
+use Rattle.rules.proofs.Ranges.{InRange, call-in-range}
+use Rattle.coding.specs.Coding.{waitNumber, flagNumber, isUnit, coreOf, listOf, decoded, coreWords, cellWords, cellsWords, coded}
+use Rattle.coding.proofs.Laws.{UnitWords, unit-words}
 
 wait-small : (w : Wait) → waitNumber w < 4
 unfolding waitNumber
@@ -23,12 +29,34 @@ unfolding flagNumber
 flag-small true = omega arith
 flag-small false = omega arith
 
+-- a unit whose counts and counter are in their ranges is not refused for its words
+pub range-is-unit : (u : Unit) → InRange cellCount u → isUnit (coded u) ≡ true
+unfolding isUnit coded coreWords cellsWords cellWords
+range-is-unit u h =
+    let datos : u .core .fetch .datos < 3 = omega (arith, h .counts .datos) in
+    let accesses : u .core .fetch .accesses < 3 = omega (arith, h .counts .accesses) in
+    let counter : u .cells .counter / 8 ≡ 1 = omega (arith, h .cells .from, h .cells .below) in
+    simp (eq-eqb _ 0 (packed-zeros (u .core .ktcs)), lt-ltb _ 4 (wait-small (u .core .wait)), lt-ltb _ 3 datos, lt-ltb _ 3 accesses, lt-ltb _ 2 (flag-small (u .core .fetch .public)), eq-eqb _ 1 counter)
+
 -- UnitFit holds of a fresh unit and after every call (`fresh-fit` and `call-fit` of the rules).
 pub fit-is-unit : (u : Unit) → UnitFit cellCount u → isUnit (coded u) ≡ true
-unfolding isUnit coded coreWords cellsWords cellWords
 fit-is-unit u h =
-    let below : u .cells .counter < 16 = omega (arith, h .cells .below) in
-    let datos : u .core .fetch .datos < 3 = omega (arith, h .core .datos, h .core .accesses) in
-    let accesses : u .core .fetch .accesses < 3 = omega (arith, h .core .accesses) in
-    let counter : u .cells .counter / 8 ≡ 1 = omega (arith, h .cells .from, below) in
-    simp (eq-eqb _ 0 (packed-zeros (u .core .ktcs)), lt-ltb _ 4 (wait-small (u .core .wait)), lt-ltb _ 3 datos, lt-ltb _ 3 accesses, lt-ltb _ 2 (flag-small (u .core .fetch .public)), eq-eqb _ 1 counter)
+    range-is-unit u
+    (record {
+      counts = record { datos = omega (arith, h .core .datos, h .core .accesses); accesses = h .core .accesses };
+      cells = record { number = h .cells .number; from = h .cells .from; below = h .cells .below };
+    })
+
+-- words that are a unit have those ranges, whoever wrote them
+decoded-in-range : (w : List ℕ) → isUnit w ≡ true → InRange cellCount (decoded w)
+unfolding decoded coreOf listOf
+decoded-in-range w is =
+    let h : UnitWords w = unit-words w is in
+    record {
+      counts = record { datos = omega (arith, h .datos); accesses = omega (arith, h .accesses) };
+      cells = record { number = refl; from = omega (arith, h .counter); below = omega (arith, h .counter) };
+    }
+
+-- so no call makes words that are a unit into words that are none
+pub unit-stays : (m : Memory) (w : List ℕ) (c : Call) → isUnit w ≡ true → isUnit (coded (callOf m (decoded w) c .reply .unit)) ≡ true
+unit-stays m w c is = range-is-unit _ (call-in-range m (decoded w) c (decoded-in-range w is))

@@ -19,7 +19,9 @@ use Rattle.rules.specs.Order.{accessed}
 use Rattle.rules.specs.Calls.{After, called, settled, callOf}
 use Rattle.rules.specs.Calls.{memoryAfter as effectOn}
 use Rattle.coding.specs.Coding.{isUnit, coreOf, listOf, decoded, coreWords, cellsWords, coded}
+use Rattle.rules.proofs.Choices.{picked}
 use Rattle.coding.proofs.Laws.{cells-stay}
+use Rattle.coding.proofs.Stays.{unit-stays}
 use Rattle.quick.specs.declared.Attempt.{Attempt}
 use Rattle.quick.specs.Usual.{usual, Sound}
 use Rattle.replies.specs.Replies.{replyWord, noUnit}
@@ -51,6 +53,11 @@ module _ (m : Memory) (w : List ℕ) (c : Call) where
   pub stay-reply : (a : ℕ) → isUnit w ≡ false → a ≡ noUnit → a ≡ replyAfter m w c
   unfolding replyAfter pick
   stay-reply a is e = e ∙ rw is
+
+-- words that are a unit stay one, and words that are none stay as they are
+pub unit-after : (m : Memory) (w : List ℕ) (c : Call) → isUnit (wordsAfter m w c) ≡ isUnit w
+unfolding wordsAfter
+unit-after m w c = picked (λ (o : List ℕ). isUnit o ≡ isUnit w) (isUnit w) _ _ (λ is. unit-stays m w c is ∙ sym is) (λ is. refl)
 
 -- An attempt that is done, at the core of a unit's words: a the attempt, o the words written.
 module _ (m : Memory) (w : List ℕ) (q : Access) (a : Attempt) (is : isUnit w ≡ true) (s : Sound a m (λ r. accessed m (decoded w .core) r q) (decoded w .cells)) (over : a .done ≡ true) where

@@ -38,7 +38,7 @@ calm-fits {c} h = record { fcn = h .fcn; wait = nothing-fits (c .wait) _ _ (h .w
 counts-at : (c : Core) → CoreFit c → CountsFit (c .fetch)
 counts-at c h = record { datos = h .datos; accesses = h .accesses }
 
-oneMore-most : (n : ℕ) → oneMore n ≤ 2
+pub oneMore-most : (n : ℕ) → oneMore n ≤ 2
 unfolding oneMore
 oneMore-most n = picked (λ (x : ℕ). x ≤ 2) (ltb n 2) _ _ (λ t. omega (arith, ltb-true n 2 t)) (λ t. omega arith)
 

@@ -40,6 +40,7 @@ pub mod Visits
 pub mod Sound
 pub mod SameRun
 pub mod HostView
+pub mod Ranges
 pub mod Wellformed
 pub mod Premises
 pub mod Versions
