@@ -20,7 +20,7 @@ use Rattle.rules.specs.Fetched.{isFetch, isDato, kindOf, oneMore, counte
 use Rattle.rules.specs.Sequences.{serviceAwaited, flagged, startEnded, addressKept, linesKept, faultData, violated, timedOut}
 use Rattle.rules.specs.Answers.{shownAs, faultShown, shown}
 use Rattle.rules.proofs.Choices.{both-true, picked}
-use Rattle.rules.proofs.Promises.{StatesOnly, Step4Keeps, Step4Leaves, Step6Keeps, Step6Leaves, ViolationKeeps, ForgottenKeeps}
+use Rattle.rules.proofs.Promises.{StatesOnly, Step4Status, Step4Registers, Step4Counts, Step4Keeps, Step4Leaves, Step6Keeps, Step6Leaves, ViolationKeeps, ForgottenKeeps}
 
 -- Step 4 -----------------------------------------------------------------------------------------------------------------
 
@@ -30,16 +30,6 @@ states-only s ss ds = record { fcn = refl; um = refl; iu = refl; rv = refl; pv =
 
 states-same : (s : Ktcs) → StatesOnly s s
 states-same s = record { fcn = refl; um = refl; iu = refl; rv = refl; pv = refl; wv = refl; av = refl; iv = refl }
-
--- SS and DS as step 4 moves them
-record StatesMoved (q : Access) (s t : Ktcs) : Type 0 where
-  only : StatesOnly s t
-  fetch-ss : isFetch q ≡ true → s .ss ≡ false → t .ss ≡ false
-  fetch-ds : isFetch q ≡ true → s .ds ≡ false → t .ds ≡ false
-  fetch-not-normal : isFetch q ≡ true → normal s q ≡ false → t ≡ s
-  ss-stands : isFetch q ≡ false → s .ss ≡ true → t .ss ≡ true
-  ds-stands : isFetch q ≡ false → s .ds ≡ true → t .ds ≡ true
-  fcn-zero : s .fcn ≡ 0 → t ≡ s
 
 -- FCN 0 is neither normal nor destination-only paging
 fcn-zero-not-normal : (s : Ktcs) (q : Access) → s .fcn ≡ 0 → (normal s q ≡ false) × (destinationOnly s ≡ false)
@@ -79,9 +69,9 @@ module _ (s : Ktcs) (f : Fetch) (q : Access) where
       rw (n, d, destinationBy-neither (kindOf (f .newer)) (isDato q && eqb (f .datos) 1) (eqb (f .accesses) 1), or-false)
 
   -- a fetch in normal paging clears both
-  states-cleared : isFetch q ≡ true → normal s q ≡ true → StatesMoved q s (withStates s false false)
+  states-cleared : flagsClear s ≡ true → isFetch q ≡ true → normal s q ≡ true → Step4Status q s (withStates s false false)
   unfolding withStates
-  states-cleared e n =
+  states-cleared clear e n =
       record {
         only = states-only s false false;
         fetch-ss = λ t z. refl;
@@ -90,10 +80,11 @@ module _ (s : Ktcs) (f : Fetch) (q : Access) where
         ss-stands = λ t z. absurd (true≢false (sym e ∙ t));
         ds-stands = λ t z. absurd (true≢false (sym e ∙ t));
         fcn-zero = λ z. absurd (true≢false (sym n ∙ fcn-zero-not-normal s q z .0));
+        flagged = λ z. absurd (true≢false (sym clear ∙ z));
       }
 
-  states-still : isFetch q ≡ true → StatesMoved q s s
-  states-still e =
+  states-still : Step4Status q s s
+  states-still =
       record {
         only = states-same s;
         fetch-ss = λ t z. z;
@@ -102,12 +93,14 @@ module _ (s : Ktcs) (f : Fetch) (q : Access) where
         ss-stands = λ t z. z;
         ds-stands = λ t z. z;
         fcn-zero = λ z. refl;
+        flagged = λ z. refl;
       }
 
   -- another access may set them
-  states-set : isFetch q ≡ false → StatesMoved q s (withStates s (s .ss || sourceSet s f q) (s .ds || destinationSet s f q))
+  states-set :
+      flagsClear s ≡ true → isFetch q ≡ false → Step4Status q s (withStates s (s .ss || sourceSet s f q) (s .ds || destinationSet s f q))
   unfolding withStates
-  states-set e =
+  states-set clear e =
       record {
         only = states-only s _ _;
         fetch-ss = λ t z. absurd (true≢false (sym t ∙ e));
@@ -116,13 +109,14 @@ module _ (s : Ktcs) (f : Fetch) (q : Access) where
         ss-stands = λ t z. rw z;
         ds-stands = λ t z. rw z;
         fcn-zero = λ z. rw (source-unset z, destination-unset z);
+        flagged = λ z. absurd (true≢false (sym clear ∙ z));
       }
 
-  statesMarked-keeps : StatesMoved q s (statesMarked s f q)
+  statesMarked-keeps : flagsClear s ≡ true → Step4Status q s (statesMarked s f q)
   unfolding statesMarked
-  statesMarked-keeps =
-      picked (StatesMoved q s) (isFetch q) _ _
-      (λ e. picked (StatesMoved q s) (normal s q) _ _ (states-cleared e) (λ n. states-still e)) states-set
+  statesMarked-keeps clear =
+      picked (Step4Status q s) (isFetch q) _ _
+      (λ e. picked (Step4Status q s) (normal s q) _ _ (states-cleared clear e) (λ n. states-still)) (states-set clear)
 
 -- an unpaged access is none of normal paging
 unpaged-fcn : (fcn state : ℕ) (b : Bool) → eqb fcn 0 ≡ b → unpaged fcn state ≡ true → fcn < 2
@@ -136,115 +130,74 @@ unpaged-not-normal s q e =
     let l : s .fcn < 2 = unpaged-fcn (s .fcn) (q .state) (eqb (s .fcn) 0) refl e in
     rw (ne-eqb (s .fcn) 2 (omega arith), ne-eqb (s .fcn) 3 (omega arith))
 
-module _ (q : Access) (c : Core) where
-  -- another fetch memory, which tells itself from the old one by the counts, and not at all after a fetch
-  counts-only :
-      (f : Fetch) → f .newer ≡ c .fetch .newer → f .older ≡ c .fetch .older → f .public ≡ c .fetch .public
-      → (isFetch q ≡ true → f ≡ c .fetch) → (isDato q ≡ false → f .datos ≡ c .fetch .datos)
-      → (c .fetch .datos ≡ 2 → f .datos ≡ 2) → (c .fetch .accesses ≡ 2 → f .accesses ≡ 2) → Step4Keeps q c (withFetch c f)
-  unfolding withFetch
-  counts-only f n o p u d two two₁ =
-      record {
-        ktcs = states-same (c .ktcs);
-        count = refl;
-        registers = λ i n. refl;
-        unpaged-registers = λ e. refl;
-        unfetched-registers = λ e. refl;
-        fetch-ss = λ e z. z;
-        fetch-ds = λ e z. z;
-        fetch-not-normal = λ e z. refl;
-        ss-stands = λ e z. z;
-        ds-stands = λ e z. z;
-        fcn-zero = λ e. refl;
-        flagged-ktcs = λ e. refl;
-        flagged-registers = λ e. refl;
-        wait = refl;
-        newer = n;
-        older = o;
-        public = p;
-        fetch-uncounted = u;
-        datos = d;
-        datos-stop = two;
-        accesses-stop = two₁;
-      }
+registers-same : (q : Access) (c d : Core) → d .kept ≡ c .kept → Step4Registers q c d
+registers-same q c d e =
+    record { count = rw e; others = λ i n. rw e; unpaged-access = λ u. e; no-fetch = λ f. e; flagged = λ f. e }
 
-  counted-keeps : Step4Keeps q c (withFetch c (counted q (c .fetch)))
-  unfolding counted oneMore pick
-  counted-keeps =
-      picked (λ f. Step4Keeps q c (withFetch c f)) (isFetch q) _ _
-      (λ e. counts-only _ refl refl refl (λ t. refl) (λ t. refl) (λ z. z) (λ z. z))
-      (λ e. counts-only _ refl refl refl (λ t. absurd (true≢false (cc))) (λ t. rw t) (stopped (isDato q)) (λ z. rw z))
-    where
-      stopped : (b : Bool) → c .fetch .datos ≡ 2 → pick b (oneMore (c .fetch .datos)) (c .fetch .datos) ≡ 2
-      stopped true z = rw z
-      stopped false z = z
+-- KTIC is taken in normal paging only, with the flags clear
+instruction-only :
+    (q : Access) (c d : Core) → flagsClear (c .ktcs) ≡ true → isFetch q ≡ true → normal (c .ktcs) q ≡ true
+    → d .kept ≡ set (c .kept) ktic (q .addr) → Step4Registers q c d
+instruction-only q c d clear f n e =
+    record {
+      count = rw e (length-set (c .kept) ktic (q .addr));
+      others = λ i o. rw e (getD-set-other (c .kept) ktic i (q .addr) 0 o);
+      unpaged-access = λ u. absurd (true≢false (sym n ∙ unpaged-not-normal (c .ktcs) q u));
+      no-fetch = λ z. absurd (true≢false (sym f ∙ z));
+      flagged = λ z. absurd (true≢false (sym clear ∙ z));
+    }
 
-  -- KTIC is taken in normal paging only, with the flags clear
-  instruction-only :
-      (d : Core) → flagsClear (c .ktcs) ≡ true → isFetch q ≡ true → normal (c .ktcs) q ≡ true → Step4Keeps q c d
-      → Step4Keeps q c (withKept d (set (d .kept) ktic (q .addr)))
-  unfolding withKept
-  instruction-only d clear f e h =
-      record {
-        ktcs = h .ktcs;
-        count = length-set (d .kept) ktic (q .addr) ∙ h .count;
-        registers = λ i n. rw getD-set-other (h .registers i n);
-        unpaged-registers = λ n. let no : normal (c .ktcs) q ≡ false = unpaged-not-normal (c .ktcs) q n in absurd (true≢false (cc));
-        unfetched-registers = λ n. absurd (true≢false (cc));
-        fetch-ss = h .fetch-ss;
-        fetch-ds = h .fetch-ds;
-        fetch-not-normal = h .fetch-not-normal;
-        ss-stands = h .ss-stands;
-        ds-stands = h .ds-stands;
-        fcn-zero = h .fcn-zero;
-        flagged-ktcs = h .flagged-ktcs;
-        flagged-registers = λ n. absurd (true≢false (cc));
-        wait = h .wait;
-        newer = h .newer;
-        older = h .older;
-        public = h .public;
-        fetch-uncounted = h .fetch-uncounted;
-        datos = h .datos;
-        datos-stop = h .datos-stop;
-        accesses-stop = h .accesses-stop;
-      }
+counted-keeps : (q : Access) (f : Fetch) → Step4Counts q f (counted q f)
+unfolding counted oneMore pick
+counted-keeps q f =
+    picked (Step4Counts q f) (isFetch q) _ _
+    (λ e. record {
+      newer = refl;
+      older = refl;
+      public = refl;
+      by-fetch = λ t. refl;
+      datos = λ t. refl;
+      datos-stop = λ z. z;
+      accesses-stop = λ z. z;
+    })
+    (λ e. record {
+      newer = refl;
+      older = refl;
+      public = refl;
+      by-fetch = λ t. absurd (true≢false (sym t ∙ e));
+      datos = λ t. rw t;
+      datos-stop = stopped (isDato q);
+      accesses-stop = λ z. rw z;
+    })
+  where
+    stopped : (b : Bool) → f .datos ≡ 2 → pick b (oneMore (f .datos)) (f .datos) ≡ 2
+    stopped true z = rw z
+    stopped false z = z
 
-  status-keeps :
-      (d : Core) (s : Ktcs) → flagsClear (c .ktcs) ≡ true → StatesMoved q (c .ktcs) s → Step4Keeps q c d → Step4Keeps q c (withKtcs d s)
-  unfolding withKtcs
-  status-keeps d s clear t h =
-      record {
-        ktcs = t .only;
-        count = h .count;
-        registers = h .registers;
-        unpaged-registers = h .unpaged-registers;
-        unfetched-registers = h .unfetched-registers;
-        fetch-ss = t .fetch-ss;
-        fetch-ds = t .fetch-ds;
-        fetch-not-normal = t .fetch-not-normal;
-        ss-stands = t .ss-stands;
-        ds-stands = t .ds-stands;
-        fcn-zero = t .fcn-zero;
-        flagged-ktcs = λ n. absurd (true≢false (cc));
-        flagged-registers = h .flagged-registers;
-        wait = h .wait;
-        newer = h .newer;
-        older = h .older;
-        public = h .public;
-        fetch-uncounted = h .fetch-uncounted;
-        datos = h .datos;
-        datos-stop = h .datos-stop;
-        accesses-stop = h .accesses-stop;
-      }
-
+-- step 4 by its parts: where a flag stands the counts alone move, and otherwise KTIC by a fetch in normal paging, SS and DS too
 pub step4-leaves : Step4Leaves
-unfolding noted marked instructionNoted withFetch
+unfolding noted marked instructionNoted withKtcs withKept withFetch
 step4-leaves c q =
     picked (Step4Keeps q c) (flagsClear (c .ktcs)) _ _
-    (λ e. status-keeps q c _ _ e (statesMarked-keeps (c .ktcs) (c .fetch) q)
-    (picked (Step4Keeps q c) (isFetch q && normal (c .ktcs) q) _ _
-    (λ n. let (f, p) = both-true (isFetch q) (normal (c .ktcs) q) n in instruction-only q c _ e f p (counted-keeps q c)) (λ n. counted-keeps q c)))
-    (λ e. counted-keeps q c)
+    (λ e. picked (λ (d : Core). Step4Keeps q c (withKtcs d (statesMarked (c .ktcs) (c .fetch) q))) (isFetch q && normal (c .ktcs) q) _ _
+    (λ n. let (f, p) = both-true (isFetch q) (normal (c .ktcs) q) n in record {
+      ktcs = statesMarked-keeps (c .ktcs) (c .fetch) q e;
+      registers = instruction-only q c _ e f p refl;
+      wait = refl;
+      fetch = counted-keeps q (c .fetch);
+    })
+    (λ n. record {
+      ktcs = statesMarked-keeps (c .ktcs) (c .fetch) q e;
+      registers = registers-same q c _ refl;
+      wait = refl;
+      fetch = counted-keeps q (c .fetch);
+    }))
+    (λ e. record {
+      ktcs = states-still (c .ktcs) (c .fetch) q;
+      registers = registers-same q c _ refl;
+      wait = refl;
+      fetch = counted-keeps q (c .fetch);
+    })
 
 -- Step 6 -----------------------------------------------------------------------------------------------------------------
 
@@ -303,14 +256,14 @@ lines-count kept window a d =
 
 pub timed-out-count : (c : Core) (q : Access) → length (timedOut (noted c q) q .kept) ≡ length (c .kept)
 unfolding timedOut withKept
-timed-out-count c q = lines-count (noted c q .kept) false _ _ ∙ step4-leaves c q .count
+timed-out-count c q = lines-count (noted c q .kept) false _ _ ∙ step4-leaves c q .registers .count
 
 -- a time-out of an unpaged access leaves every register but KTAD and KTDT
 pub timed-out-registers :
     (c : Core) (q : Access) → unpaged (c .ktcs .fcn) (q .state) ≡ true → (i : ℕ) → i ≢ ktad → i ≢ ktdt
     → getD (timedOut (noted c q) q .kept) i 0 ≡ getD (c .kept) i 0
 unfolding timedOut withKept
-timed-out-registers c q e i n₁ n₂ = lines-keep (noted c q .kept) false _ _ i n₁ n₂ ∙ rw (step4-leaves c q .unpaged-registers e)
+timed-out-registers c q e i n₁ n₂ = lines-keep (noted c q .kept) false _ _ i n₁ n₂ ∙ rw (step4-leaves c q .registers .unpaged-access e)
 
 -- KTCS but for the flags, of which the fault's own is set
 record FlagsOnly (f : Fault) (s t : Ktcs) : Type 0 where
@@ -352,22 +305,22 @@ violated-keeps c q window f =
     let lines : (i : ℕ) → i ≢ ktad → i ≢ ktdt → getD (violated (noted c q) q window f .kept) i 0 ≡ getD (noted c q .kept) i 0 =
     lines-keep (noted c q .kept) window (q .addr) (faultData q f) in
     record {
-      fcn = λ e. s .fcn ∙ rw (h .ktcs .fcn, e);
-      fcn-three = λ e. s .fcn ∙ rw (h .ktcs .fcn, e);
+      fcn = λ e. s .fcn ∙ rw (h .ktcs .only .fcn, e);
+      fcn-three = λ e. s .fcn ∙ rw (h .ktcs .only .fcn, e);
       um = refl;
-      iu = s .um ∙ h .ktcs .um;
+      iu = s .um ∙ h .ktcs .only .um;
       ss = s .ss;
       ds = s .ds;
-      rv = s .rv ∙ rw (h .ktcs .rv);
-      pv = s .pv ∙ rw (h .ktcs .pv);
-      wv = s .wv ∙ rw (h .ktcs .wv);
-      av = s .av ∙ rw (h .ktcs .av);
-      iv = s .iv ∙ rw (h .ktcs .iv);
-      count = lines-count (noted c q .kept) window (q .addr) (faultData q f) ∙ h .count;
+      rv = s .rv ∙ rw (h .ktcs .only .rv);
+      pv = s .pv ∙ rw (h .ktcs .only .pv);
+      wv = s .wv ∙ rw (h .ktcs .only .wv);
+      av = s .av ∙ rw (h .ktcs .only .av);
+      iv = s .iv ∙ rw (h .ktcs .only .iv);
+      count = lines-count (noted c q .kept) window (q .addr) (faultData q f) ∙ h .registers .count;
       instruction = lines ktic (omega arith) (omega arith);
-      registers = λ i n n₁ n₂. lines i n₁ n₂ ∙ h .registers i n;
+      registers = λ i n n₁ n₂. lines i n₁ n₂ ∙ h .registers .others i n;
       inner-address =
-          λ e. inner-lines-keep (noted c q .kept) window (q .addr) (faultData q f) e ∙ h .registers ktad (omega arith);
+          λ e. inner-lines-keep (noted c q .kept) window (q .addr) (faultData q f) e ∙ h .registers .others ktad (omega arith);
       wait = refl;
       fetch = refl;
     }

@@ -44,6 +44,8 @@ pub mod Ranges
 pub mod Wellformed
 pub mod Premises
 pub mod Versions
+-- Both demands
+pub mod Proved
 -- Demand 2
 pub mod OneOutcome
 pub mod Refuted

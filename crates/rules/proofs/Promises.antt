@@ -1,5 +1,5 @@
--- The promises: demands 1 and 3 as statements about the rules, with the definitions that they need beside those of specs/. Each is proved in another
--- file of this folder, and docs/PROMISES.md tells which.
+-- The promises: demands 1 and 3 as statements about the rules, with the definitions that they need beside those of specs/; the last record lists them.
+-- They are proved in other files of this folder, and gathered in Proved.antt.
 use Prim.Native.Nat.{ℕ, _+_, _-_, _≤_, _<_}
 use mathlib.Core.Bool.{Bool, true, false, not, _&&_, _||_}
 use mathlib.Core.Path.{_≡_}
@@ -7,7 +7,7 @@ use mathlib.Core.Logic.{_≢_}
 use mathlib.Core.List.{List, [], _∷_, _++_}
 use lib.Dec.{eqb}
 use lib.ListN.{length, getD}
-use Rattle.rules.specs.Types.{Wait, Ktcs, Core, Maps, Cell, Cells, Unit, Access, Call, Found, Place, Entry, Looked, Due, Fault, Answer, Physical, Job}
+use Rattle.rules.specs.Types.{Wait, Ktcs, Fetch, Core, Maps, Cell, Cells, Unit, Access, Call, Found, Place, Entry, Looked, Due, Fault, Answer, Physical, Job}
 use Rattle.rules.specs.Choice.{pick}
 use Rattle.rules.specs.Memory.{Memory}
 use Rattle.rules.specs.Unit.{emptyCell, clearFetch}
@@ -212,31 +212,41 @@ pub record StatesOnly (s t : Ktcs) : Type 0 where
   pub av : t .av ≡ s .av
   pub iv : t .iv ≡ s .iv
 
--- Step 4 makes d of the core c. It moves the counts, KTIC, SS and DS: KTIC by a paged fetch alone; SS and DS not in FCN 0; a fetch sets neither, and
--- leaves both but in normal paging; another access clears neither; where an error flag stands, the counts alone move; the counts not by a fetch, that
--- of DATOs by a DATO alone, and a count that is 2 stays so.
-pub record Step4Keeps (q : Access) (c d : Core) : Type 0 where
-  pub ktcs : StatesOnly (c .ktcs) (d .ktcs)
+-- Step 4 makes t of KTCS s. SS and DS alone move: not in FCN 0, and not where an error flag stands; a fetch sets neither, and leaves both but in normal
+-- paging; another access clears neither.
+pub record Step4Status (q : Access) (s t : Ktcs) : Type 0 where
+  pub only : StatesOnly s t
+  pub fetch-ss : isFetch q ≡ true → s .ss ≡ false → t .ss ≡ false
+  pub fetch-ds : isFetch q ≡ true → s .ds ≡ false → t .ds ≡ false
+  pub fetch-not-normal : isFetch q ≡ true → normal s q ≡ false → t ≡ s
+  pub ss-stands : isFetch q ≡ false → s .ss ≡ true → t .ss ≡ true
+  pub ds-stands : isFetch q ≡ false → s .ds ≡ true → t .ds ≡ true
+  pub fcn-zero : s .fcn ≡ 0 → t ≡ s
+  pub flagged : flagsClear s ≡ false → t ≡ s
+
+-- Of KTIC to KTDT, KTIC alone moves: by a paged fetch, where no error flag stands.
+pub record Step4Registers (q : Access) (c d : Core) : Type 0 where
   pub count : length (d .kept) ≡ length (c .kept)
-  pub registers : (i : ℕ) → i ≢ ktic → getD (d .kept) i 0 ≡ getD (c .kept) i 0
-  pub unpaged-registers : unpaged (c .ktcs .fcn) (q .state) ≡ true → d .kept ≡ c .kept
-  pub unfetched-registers : isFetch q ≡ false → d .kept ≡ c .kept
-  pub fetch-ss : isFetch q ≡ true → c .ktcs .ss ≡ false → d .ktcs .ss ≡ false
-  pub fetch-ds : isFetch q ≡ true → c .ktcs .ds ≡ false → d .ktcs .ds ≡ false
-  pub fetch-not-normal : isFetch q ≡ true → normal (c .ktcs) q ≡ false → d .ktcs ≡ c .ktcs
-  pub ss-stands : isFetch q ≡ false → c .ktcs .ss ≡ true → d .ktcs .ss ≡ true
-  pub ds-stands : isFetch q ≡ false → c .ktcs .ds ≡ true → d .ktcs .ds ≡ true
-  pub fcn-zero : c .ktcs .fcn ≡ 0 → d .ktcs ≡ c .ktcs
-  pub flagged-ktcs : flagsClear (c .ktcs) ≡ false → d .ktcs ≡ c .ktcs
-  pub flagged-registers : flagsClear (c .ktcs) ≡ false → d .kept ≡ c .kept
+  pub others : (i : ℕ) → i ≢ ktic → getD (d .kept) i 0 ≡ getD (c .kept) i 0
+  pub unpaged-access : unpaged (c .ktcs .fcn) (q .state) ≡ true → d .kept ≡ c .kept
+  pub no-fetch : isFetch q ≡ false → d .kept ≡ c .kept
+  pub flagged : flagsClear (c .ktcs) ≡ false → d .kept ≡ c .kept
+
+-- Of the fetch memory the counts alone move: not by a fetch, that of DATOs by a DATO alone, and a count that is 2 stays so.
+pub record Step4Counts (q : Access) (f g : Fetch) : Type 0 where
+  pub newer : g .newer ≡ f .newer
+  pub older : g .older ≡ f .older
+  pub public : g .public ≡ f .public
+  pub by-fetch : isFetch q ≡ true → g ≡ f
+  pub datos : isDato q ≡ false → g .datos ≡ f .datos
+  pub datos-stop : f .datos ≡ 2 → g .datos ≡ 2
+  pub accesses-stop : f .accesses ≡ 2 → g .accesses ≡ 2
+
+pub record Step4Keeps (q : Access) (c d : Core) : Type 0 where
+  pub ktcs : Step4Status q (c .ktcs) (d .ktcs)
+  pub registers : Step4Registers q c d
   pub wait : d .wait ≡ c .wait
-  pub newer : d .fetch .newer ≡ c .fetch .newer
-  pub older : d .fetch .older ≡ c .fetch .older
-  pub public : d .fetch .public ≡ c .fetch .public
-  pub fetch-uncounted : isFetch q ≡ true → d .fetch ≡ c .fetch
-  pub datos : isDato q ≡ false → d .fetch .datos ≡ c .fetch .datos
-  pub datos-stop : c .fetch .datos ≡ 2 → d .fetch .datos ≡ 2
-  pub accesses-stop : c .fetch .accesses ≡ 2 → d .fetch .accesses ≡ 2
+  pub fetch : Step4Counts q (c .fetch) (d .fetch)
 
 abbrev pub Step4Leaves : Type 0
 Step4Leaves = (c : Core) (q : Access) → Step4Keeps q c (noted c q)
@@ -458,3 +468,29 @@ abbrev pub SameAsPlain : Type 0
 SameAsPlain =
     (n : ℕ) (m : Memory) (cs : List Call) → meets m (freshWith n) noneInUse cs ≡ true
     → seenAlong m (freshWith n) cs ≡ plainAlong m (plainOf (freshWith n)) cs
+
+-- All of them ------------------------------------------------------------------------------------------------------------
+
+pub record Promises : Type 0 where
+  -- Demand 1
+  pub answered-in-order : AnsweredInOrder
+  pub numbers-of-steps : NumbersOfSteps
+  pub numbered : Numbered
+  pub eighteen-bits : EighteenBits
+  pub memory-untouched : MemoryUntouched
+  pub length-kept : LengthKept
+  pub refused-unchanged : RefusedUnchanged
+  pub unpaged-refusal : UnpagedRefusal
+  pub paged-refusal : PagedRefusal
+  pub step4-leaves : Step4Leaves
+  pub step6-leaves : Step6Leaves
+  pub interrupt-leaves : InterruptLeaves
+  pub trap-leaves : TrapLeaves
+  pub exec-trap-unchanged : ExecTrapUnchanged
+  pub other-trap-unchanged : OtherTrapUnchanged
+  pub init-leaves : InitLeaves
+  -- Demand 3
+  pub always-fit : AlwaysFit
+  pub exec-zero-uncelled : ExecZeroUncelled
+  pub cells-true-throughout : CellsTrueThroughout
+  pub same-as-plain : SameAsPlain

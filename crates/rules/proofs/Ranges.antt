@@ -1,13 +1,12 @@
 -- The ranges that every call keeps of any unit, also of one that no run reaches: the counts are at most 2, and the counter names a cell.
 use Prim.Native.Nat.{ℕ, _+_, _-_, _≤_, _<_}
-use mathlib.Core.Path.{_≡_, refl, sym, subst, _∙_}
+use mathlib.Core.Path.{_≡_, refl, _∙_}
 use mathlib.Core.Bool.{Bool, _&&_}
-use mathlib.Core.List.{map}
 use native.Mathlib.Omega.{arith}
 use lib.Dec.{ltb}
 use lib.ListN.{length, length-set, length-map, length-replicate}
 use borrow.Author.Tests.{ltb-true}
-use Rattle.rules.specs.Types.{Fetch, Core, Maps, Cell, Cells, Unit, Access, Call, Found, Register, Place, Part, Walk, Looked, Effect, Job, Ran}
+use Rattle.rules.specs.Types.{Fetch, Core, Maps, Cells, Unit, Access, Call, Found, Register, Place, Part, Walk, Looked, Effect, Job, Ran}
 use Rattle.rules.specs.Memory.{Memory}
 use Rattle.rules.specs.Unit.{emptyCell, emptied, clearFetch, withKtcs, withKept, withFetch, initCore}
 use Rattle.rules.specs.Status.{flagsClear}
@@ -17,10 +16,9 @@ use Rattle.rules.specs.Fetched.{isFetch, isDato, counted, normal, instru
 use Rattle.rules.specs.Sequences.{serviceAwaited, violated, timedOut, statusStored, programCounterStored, firstReadDone, userStarted, interrupted, trapTaken, trapped}
 use Rattle.rules.specs.Program.{Prog, done, ask, peek, run}
 use Rattle.rules.specs.Order.{outcome, coreStored, storedAt}
-use Rattle.rules.specs.Calls.{called, cellsAfter, settled, callOf}
+use Rattle.rules.specs.Calls.{cellsAfter, settled, callOf}
 use Rattle.rules.proofs.Choices.{picked}
 use Rattle.rules.proofs.CoreLaws.{oneMore-most}
-use Rattle.rules.proofs.Promises.{job}
 use Rattle.rules.proofs.Ways.{There, memory, register, Transfer, read, store}
 use Rattle.rules.proofs.Ways.{Way, misshapen, late, status-stored, program-counter-stored, first-read, second-read, unpaged-odd, unpaged-nowhere, unpaged-window, unpaged-fetch, unpaged-transfer, violation, fetch, transfer, inner-transfer}
 use Rattle.rules.proofs.Ways.{Why, access, interrupt-late, interrupt-taken, unlisted, trap-late, trap-taken, init}

@@ -1,4 +1,5 @@
--- The three faults that shipped, and an error that looks right, as rules that differ from 01's in what a call leaves in the cells, and a computed run that tells each apart.
+-- The three faults that shipped, and an error that looks right, as rules that differ from 01's in what a call leaves in the cells, and a computed
+-- run that tells each apart.
 use Prim.Native.Nat.{ℕ, _+_}
 use native.Mathlib.Omega.{arith}
 use mathlib.Core.Path.{_≡_, refl, ap}
