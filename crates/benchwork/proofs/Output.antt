@@ -13,7 +13,6 @@ use Rattle.linetext.specs.declared.gather.Gather.{Gather}
 use Rattle.linetext.specs.Cut.{onto}
 use Rattle.linetext.specs.Gather.{nothingYet, pushOf, pushAll, gathered}
 use Rattle.linetext.specs.Line.{lineOf}
-use Rattle.linetext.specs.Pick as text
 use Rattle.linetext.proofs.Whole.{whole}
 use Rattle.rowtext.specs.Row.{headerOf}
 use Rattle.benchwork.specs.declared.Bench.{Bench}
@@ -31,7 +30,7 @@ push-last g (b ∷ p) x = push-last (pushOf g b) p x
 
 -- is not empty
 push-some : (g : Gather) (x : ℕ) → 0 < pushOf g x .len
-unfolding pushOf
+unfolding pushOf pick
 push-some g x = by (ltb (g .len) 40) refl
   where
     more : Gather
@@ -40,7 +39,7 @@ push-some g x = by (ltb (g .len) 40) refl
     full : Gather
     full = record { buf = g .buf; len = g .len; over = true }
 
-    by : (t : Bool) → ltb (g .len) 40 ≡ t → 0 < text.pick t more full .len
+    by : (t : Bool) → ltb (g .len) 40 ≡ t → 0 < pick t more full .len
     by true e = omega arith
     by false e = omega (arith, ltb-false (g .len) 40 e)
 

@@ -1,4 +1,5 @@
 -- The laws of reading a line's numbers one after the other, for any number of them, and of the letter before them.
+use Rattle.rules.specs.Choice.{pick}
 use Prim.Native.Nat.{ℕ, zero, suc, _+_, _<_}
 use mathlib.Core.Path.{_≡_, refl, ap, sym, _∙_}
 use mathlib.Core.Bool.{Bool, true, false, _&&_, and-assoc}
@@ -64,6 +65,7 @@ module _ (s : List ℕ) (fs : List (List ℕ)) (k : ℕ) (b r : Reading) (chain 
       }
 
   pub chain-value : (n : ℕ) → numbers n fs ≡ true → k < n → r .value ≡ worth (getD fs k [])
+  unfolding pick
   chain-value n e h =
       let f : getD (drop k fs) 0 [] ≡ getD fs k [] = getD-drop k fs 0 [] ∙ ap (λ (i : ℕ). getD fs i []) (add-zero k) in
       took .value ∙ simp (chain .left, f, each n k fs (good-numbers n fs ∙ e) h)
@@ -80,11 +82,11 @@ alone-end s = sym (good-numbers 0 (fieldsAt s 2)) ∙ none-left s 2
 
 -- the letter's field
 pub line-other : (s : List ℕ) → (length (headOf s) ≡ 1 → ⊥) → lineOf s ≡ Bad
-unfolding lineOf fromFields byName
+unfolding lineOf fromFields byName pick
 line-other s h = rw (fields-split s) (simp (ne-eqb _ _ h))
 
 pub line-letter : (s : List ℕ) → length (headOf s) ≡ 1 → lineOf s ≡ byLetter (getD s 0 0) (fieldsAt s 2)
-unfolding lineOf fromFields byName
+unfolding lineOf fromFields byName pick
 line-letter s h =
     let t : headOf s ≡ take 1 s = sym (head-take s) ∙ ap (λ (n : ℕ). take n s) h in
     let g : getD (headOf s) 0 0 ≡ getD s 0 0 = ap (λ (l : List ℕ). getD l 0 0) t ∙ getD-take 1 s 0 0 (omega arith) in

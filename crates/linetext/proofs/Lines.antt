@@ -5,7 +5,7 @@ use mathlib.Core.Bool.{Bool, true, false, _&&_}
 use mathlib.Core.List.{List}
 use native.Mathlib.Omega.{arith}
 use lib.Dec.{eqb}
-use Rattle.linetext.specs.Pick.{pick}
+use Rattle.rules.specs.Choice.{pick}
 use Rattle.linetext.specs.Cut.{fieldsAt, none}
 use Rattle.linetext.specs.Line.{numbers, storeOf, accessOf, trapOf}
 use Rattle.linetext.specs.Reading.{Took}
@@ -23,7 +23,7 @@ ends s last = last .good && none (fieldsAt s (last .at))
 
 module _ (s : List ℕ) (a : Reading) (ta : Took s start a) where
   pub trap-read : (t : Bool) → t ≡ ends s a → pick t (Trap (a .value)) Bad ≡ trapOf (fieldsAt s 2)
-  unfolding trapOf
+  unfolding trapOf pick
   trap-read t e =
       let fs = fieldsAt s 2 in
       let n : numbers 1 fs ≡ t = sym (e ∙ chain-end s fs 1 a (chain-more s fs 0 start a (chain-start s) ta)) in
@@ -36,7 +36,7 @@ module _ (s : List ℕ) (a : Reading) (ta : Took s start a) where
 module _ (s : List ℕ) (a b : Reading) (ta : Took s start a) (tb : Took s a b) where
   pub store-read : (t u : Bool) → t ≡ ends s b → u ≡ eqb (a .value % 2) 0
       → pick t (pick u (Store (a .value) (b .value)) Bad) Bad ≡ storeOf (fieldsAt s 2)
-  unfolding storeOf
+  unfolding storeOf pick
   store-read t u e o =
       let fs = fieldsAt s 2 in
       let n : numbers 2 fs ≡ t = sym (e ∙ chain-end s fs 2 b (chain-more s fs 1 a b (chain-more s fs 0 start a (chain-start s) ta) tb)) in
@@ -65,7 +65,7 @@ module _ (s : List ℕ) (a b c d e : Reading) (ta : Took s start a) (tb : Took s
 
   pub access-read : (t : Bool) → t ≡ ends s e
       → pick t (Access (record { op = a .value; state = b .value; width = c .value; addr = d .value; datum = e .value })) Bad ≡ accessOf (fieldsAt s 2)
-  unfolding accessOf
+  unfolding accessOf pick
   access-read t h = by t (sym (h ∙ chain-end s (fieldsAt s 2) 5 e (chain-more s (fieldsAt s 2) 4 d e k4 te)))
     where
       by : (t : Bool) → numbers 5 (fieldsAt s 2) ≡ t

@@ -1,4 +1,5 @@
 -- The laws of a number field: what one more digit does, and which of its tests makes it no number.
+use Rattle.rules.specs.Choice.{pick}
 use Prim.Native.Nat.{ℕ, _+_, _-_, _*_, _^_, _≤_, _<_}
 use mathlib.Core.Path.{_≡_, refl}
 use mathlib.Core.Bool.{Bool, true, false, _&&_, and-false}
@@ -51,17 +52,17 @@ eight-small i h = pow-le-pow-right {n = 8} (omega arith) {i = i} {j = 5} (omega 
 
 module _ (f : List ℕ) where
   pub number-long : 6 < length f → numberOf f ≡ NotOne
-  unfolding numberOf isNumber
+  unfolding numberOf isNumber pick
   number-long h = simp (le-ltb (length f) 7 h, and-false)
 
   pub number-other : allOctal f ≡ false → numberOf f ≡ NotOne
-  unfolding numberOf isNumber
+  unfolding numberOf isNumber pick
   number-other h = simp (h, and-false)
 
   pub number-large : 65536 ≤ worth f → numberOf f ≡ NotOne
-  unfolding numberOf isNumber
+  unfolding numberOf isNumber pick
   number-large h = simp (le-ltb (worth f) 65536 h, and-false)
 
   pub number-value : 0 < length f → length f ≤ 6 → allOctal f ≡ true → worth f < 65536 → numberOf f ≡ Value (worth f)
-  unfolding numberOf isNumber
+  unfolding numberOf isNumber pick
   number-value h l o w = simp (lt-ltb 0 (length f) h, lt-ltb (length f) 7 (omega arith), o, lt-ltb (worth f) 65536 w)

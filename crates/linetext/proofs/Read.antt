@@ -7,7 +7,7 @@ use native.Mathlib.Omega.{arith}
 use lib.ListN.{length, drop, take, length-drop}
 use lib.Seq.{take-all}
 use borrow.Author.Tests.{lt-ltb, le-ltb}
-use Rattle.linetext.specs.Pick.{pick}
+use Rattle.rules.specs.Choice.{pick}
 use Rattle.linetext.specs.Cut.{fields, headOf, fieldsAt}
 use Rattle.linetext.specs.Number.{isNumber, worth, numberOf}
 use Rattle.linetext.specs.Reading.{Took}
@@ -17,14 +17,14 @@ use Rattle.linetext.proofs.Scan.{fields-split, fields-rest, head-take}
 
 -- past the end there is no field, and no field is no number
 pub took-past : (s : List ℕ) (b : Reading) → length s < b .at → Took s b (record { at = b .at; good = false; value = 0 })
-unfolding fieldsAt isNumber
+unfolding fieldsAt isNumber pick
 took-past s b h =
     record { left = simp (lt-ltb _ _ h); good = simp (lt-ltb _ _ h, and-false); value = simp (lt-ltb _ _ h) }
 
 -- the fields at a place within the line are the first, and those past it
 pub fields-step : (s : List ℕ) (at e : ℕ) → at ≤ length s → e ≡ length (headOf (drop at s))
     → fieldsAt s at ≡ headOf (drop at s) ∷ fieldsAt s (at + e + 1)
-unfolding fieldsAt
+unfolding fieldsAt pick
 fields-step s at e h k = here ∙ fields-split (drop at s) ∙ ap (λ (fs : List (List ℕ)). headOf (drop at s) ∷ fs) there
   where
     here : fieldsAt s at ≡ fields (drop at s)
@@ -34,10 +34,12 @@ fields-step s at e h k = here ∙ fields-split (drop at s) ∙ ap (λ (fs : List
     there = fields-rest s at (suc (length (headOf (drop at s)))) h ∙ ap (fieldsAt s) (omega arith)
 
 is-value : (t : Bool) (w v : ℕ) → Value v ≡ pick t (Value w) NotOne → (t ≡ true) × (w ≡ v)
+unfolding pick
 is-value true w v e = (refl, cc)
 is-value false w v e = (cc, cc)
 
 not-value : (t : Bool) (w : ℕ) → NotOne ≡ pick t (Value w) NotOne → t ≡ false
+unfolding pick
 not-value true w e = cc
 not-value false w e = refl
 
@@ -58,7 +60,7 @@ module _ (s : List ℕ) (b : Reading) (e : ℕ) (h : b .at ≤ length s)
 
   pub took-value : (v : ℕ) → Value v ≡ numberOf (take (b .at + e - b .at) (drop (b .at) s))
       → Took s b (record { at = b .at + e + 1; good = b .good; value = v })
-  unfolding numberOf
+  unfolding numberOf pick
   took-value v n =
       let f : List ℕ = headOf (drop (b .at) s) in
       let step = fields-step s (b .at) e h end in
@@ -67,7 +69,7 @@ module _ (s : List ℕ) (b : Reading) (e : ℕ) (h : b .at ≤ length s)
 
   pub took-other : NotOne ≡ numberOf (take (b .at + e - b .at) (drop (b .at) s))
       → Took s b (record { at = b .at + e + 1; good = false; value = 0 })
-  unfolding numberOf
+  unfolding numberOf pick
   took-other n =
       let f : List ℕ = headOf (drop (b .at) s) in
       let step = fields-step s (b .at) e h end in

@@ -9,7 +9,7 @@ use lib.ListN.{length, getD, drop, take, drop-of-length-le, length-drop}
 use lib.Dec.{ltb, eqb, leb·suc-suc}
 use lib.Seq.{drop-cons, drop-drop}
 use borrow.Author.Tests.{lt-ltb, le-ltb, ltb-true, ltb-false, ne-eqb}
-use Rattle.linetext.specs.Pick.{pick}
+use Rattle.rules.specs.Choice.{pick}
 use Rattle.linetext.specs.Cut.{onto, fields, headOf, fieldsAt, none}
 
 -- the rest of a list at a place, with its first byte shown
@@ -21,11 +21,11 @@ unfolding headOf
 head-end s i h = rw (drop-of-length-le s h)
 
 pub head-tab : (s : List ℕ) (i : ℕ) → i < length s → getD s i 0 ≡ 9 → headOf (drop i s) ≡ []
-unfolding headOf
+unfolding headOf pick
 head-tab s i h e = simp (at-place s i h, e)
 
 pub head-more : (s : List ℕ) (i : ℕ) → i < length s → (getD s i 0 ≡ 9 → ⊥) → headOf (drop i s) ≡ getD s i 0 ∷ headOf (drop (i + 1) s)
-unfolding headOf
+unfolding headOf pick
 head-more s i h e = simp (at-place s i h, ne-eqb _ _ e)
 
 -- two tests that hold together are one Bool
@@ -38,7 +38,7 @@ same-test a b c d f g = go (ltb a b) refl
 
 -- a line is its first field, and the fields that start past its tab
 pub fields-split : (s : List ℕ) → fields s ≡ headOf s ∷ fieldsAt s (suc (length (headOf s)))
-unfolding fields headOf fieldsAt onto
+unfolding fields headOf fieldsAt onto pick
 fields-split [] = refl
 fields-split (b ∷ s) = split (eqb b 9) (fields-split s)
   where
@@ -50,7 +50,7 @@ fields-split (b ∷ s) = split (eqb b 9) (fields-split s)
 
 -- the first field is what stands before its end
 pub head-take : (s : List ℕ) → take (length (headOf s)) s ≡ headOf s
-unfolding headOf
+unfolding headOf pick
 head-take [] = refl
 head-take (b ∷ s) = part (eqb b 9) (head-take s)
   where
@@ -65,7 +65,7 @@ fields-rest s at e h =
     simp (length-drop, drop-drop, same-test (length s - at) e (length s) (at + e) (λ k. omega arith) (λ k. omega arith))
 
 pub none-left : (s : List ℕ) (at : ℕ) → none (fieldsAt s at) ≡ ltb (length s) at
-unfolding fieldsAt none
+unfolding fieldsAt none pick
 none-left s at = go (ltb (length s) at)
   where
     go : (t : Bool) → none (pick t [] (fields (drop at s))) ≡ t

@@ -9,7 +9,8 @@ use lib.ListN.{length, getD, take, set, length-append, length-set}
 use lib.Dec.{ltb, eqb}
 use lib.Seq.{take-suc-set}
 use borrow.Author.Tests.{le-ltb, ltb-true, ltb-false, eqb-true}
-use Rattle.linetext.specs.Pick.{pick}
+use Rattle.rules.specs.Choice.{pick}
+use Rattle.rules.proofs.Choices.{pick-same}
 use Rattle.linetext.specs.Cut.{onto, fields, headOf, fieldsAt}
 use Rattle.linetext.specs.Number.{allOctal, worth, isNumber}
 use Rattle.linetext.specs.Line.{allNumbers, numbers, storeOf, accessOf, trapOf, aloneOf, byLetter, byName, fromFields, lineOf}
@@ -30,7 +31,7 @@ unfolding total onto
 total-onto b f fs = omega arith
 
 total-fields : (s : List ℕ) → total (fields s) ≡ suc (length s)
-unfolding total fields
+unfolding total fields pick
 total-fields [] = refl
 total-fields (b ∷ s) = by (eqb b 9) (total-fields s)
   where
@@ -68,17 +69,13 @@ no-numbers n fs h k = by (eqb (length fs) n && allNumbers fs) refl
         let z : ⊥ = omega arith in
         absurd z
 
-same : (t : Bool) (l : Line) → pick t l l ≡ l
-same true l = refl
-same false l = refl
-
 letter-long : (b : ℕ) (fs : List (List ℕ)) → 35 < total fs → byLetter b fs ≡ Bad
-unfolding byLetter storeOf accessOf trapOf aloneOf
+unfolding byLetter storeOf accessOf trapOf aloneOf pick
 letter-long b fs k =
-    simp (no-numbers 0 fs (omega arith) k, no-numbers 1 fs (omega arith) k, no-numbers 2 fs (omega arith) k, no-numbers 5 fs (omega arith) k, same)
+    simp (no-numbers 0 fs (omega arith) k, no-numbers 1 fs (omega arith) k, no-numbers 2 fs (omega arith) k, no-numbers 5 fs (omega arith) k, pick-same)
 
 name-long : (name : List ℕ) (fs : List (List ℕ)) → 36 < length name + total fs → byName name fs ≡ Bad
-unfolding byName
+unfolding byName pick
 name-long name fs k = by (eqb (length name) 1) refl
   where
     by : (t : Bool) → eqb (length name) 1 ≡ t → pick t (byLetter (getD name 0 0) fs) Bad ≡ Bad
@@ -102,7 +99,7 @@ data Held (p : List ℕ) (g : Gather) : Type 0 where
   lost : g .over ≡ true → 40 < length p → Held p g
 
 held-push : (p : List ℕ) (g : Gather) (b : ℕ) → Held p g → Held (p ++ b ∷ []) (pushOf g b)
-unfolding pushOf
+unfolding pushOf pick
 held-push p g b (kept o l w t z) = by (ltb (g .len) 40) refl
   where
     longer : length (p ++ b ∷ []) ≡ length p + 1
@@ -138,7 +135,7 @@ held-all (b ∷ s) p g h = rw append-assoc at (held-all s (p ++ b ∷ []) (pushO
 
 -- a gather that holds a line asks for what the line asks for
 held-line : (p : List ℕ) (g : Gather) → Held p g → lineIn g ≡ lineOf p
-unfolding lineIn
+unfolding lineIn pick
 held-line p g (kept o l w t z) = simp (o, le-ltb 40 (g .len) (omega arith), t)
 held-line p g (lost o h) = simp o (sym (long-bad p (omega arith)))
 

@@ -1,4 +1,5 @@
 -- The lines of the paper's example, each other sort of line, and lines that are bad, worked by the definition.
+use Rattle.rules.specs.Choice.{pick}
 use Prim.Native.Nat.{ℕ}
 use Prim.Native.Char.{code}
 use Prim.Native.String.{String, [] as []ˢ, _∷_ as _∷ˢ_}
@@ -25,15 +26,15 @@ good : (asks "W\t001402\t160002" ≡ Store 0o1402 0o160002)
     × (asks "I" ≡ Interrupt)
     × (asks "T\t14" ≡ Trap 0o14)
     × (asks "X" ≡ Init)
-unfolding asks lineOf fromFields byName byLetter storeOf accessOf trapOf aloneOf numbers allNumbers isNumber worth worthFrom allOctal octalDigit fields onto
+unfolding asks lineOf fromFields byName byLetter storeOf accessOf trapOf aloneOf numbers allNumbers isNumber worth worthFrom allOctal octalDigit fields onto pick
 good = (refl, refl, refl, refl, refl, refl)
 
 -- an empty line, another letter, too few and too many fields, a tab at the end
 bad-fields : (asks "" ≡ Bad) × (asks "Q" ≡ Bad) × (asks "W\t2" ≡ Bad) × (asks "T\t4\t4" ≡ Bad) × (asks "T\t4\t" ≡ Bad) × (asks "I\t" ≡ Bad)
-unfolding asks lineOf fromFields byName byLetter storeOf accessOf trapOf aloneOf numbers allNumbers isNumber worth worthFrom allOctal octalDigit fields onto
+unfolding asks lineOf fromFields byName byLetter storeOf accessOf trapOf aloneOf numbers allNumbers isNumber worth worthFrom allOctal octalDigit fields onto pick
 bad-fields = (refl, refl, refl, refl, refl, refl)
 
 -- a digit 8, a seventh digit, a number above 177777, an odd address to store at, a blank, a carriage return
 bad-numbers : (asks "T\t18" ≡ Bad) × (asks "T\t0000004" ≡ Bad) × (asks "T\t200000" ≡ Bad) × (asks "W\t3\t0" ≡ Bad) × (asks "T\t 4" ≡ Bad) × (asks "X\r" ≡ Bad)
-unfolding asks lineOf fromFields byName byLetter storeOf accessOf trapOf aloneOf numbers allNumbers isNumber worth worthFrom allOctal octalDigit fields onto
+unfolding asks lineOf fromFields byName byLetter storeOf accessOf trapOf aloneOf numbers allNumbers isNumber worth worthFrom allOctal octalDigit fields onto pick
 bad-numbers = (refl, refl, refl, refl, refl, refl)

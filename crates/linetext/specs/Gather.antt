@@ -4,7 +4,7 @@ use mathlib.Core.Bool.{true, false}
 use mathlib.Core.List.{List, [], _∷_}
 use lib.ListN.{take, set, replicate}
 use lib.Dec.{ltb}
-use Rattle.linetext.specs.Pick.{pick}
+use Rattle.rules.specs.Choice.{pick}
 use Rattle.linetext.specs.Line.{lineOf}
 use Rattle.linetext.specs.declared.gather.Gather.{Gather}
 use Rattle.linetext.specs.declared.line.Line.{Line}

@@ -1,5 +1,4 @@
 -- The definitions that the contracts cite.
-pub mod Pick
 pub mod Cut
 pub mod Number
 pub mod Line

@@ -4,7 +4,7 @@ use mathlib.Core.Bool.{Bool, true, _&&_}
 use mathlib.Core.List.{List, [], _∷_}
 use lib.ListN.{length, getD}
 use lib.Dec.{eqb}
-use Rattle.linetext.specs.Pick.{pick}
+use Rattle.rules.specs.Choice.{pick}
 use Rattle.linetext.specs.Cut.{fields}
 use Rattle.linetext.specs.Number.{isNumber, worth}
 use Rattle.linetext.specs.declared.line.Line.{Line}

@@ -4,7 +4,7 @@ use mathlib.Core.Bool.{Bool, true, _&&_}
 use mathlib.Core.List.{List, [], _∷_}
 use lib.ListN.{length}
 use lib.Dec.{ltb}
-use Rattle.linetext.specs.Pick.{pick}
+use Rattle.rules.specs.Choice.{pick}
 use Rattle.linetext.specs.declared.field.Number.{Number}
 use Rattle.linetext.specs.declared.field.Number.the-variants.{Value, NotOne}
 

@@ -4,7 +4,7 @@ use mathlib.Core.Path.{_≡_}
 use mathlib.Core.Bool.{_&&_}
 use mathlib.Core.List.{List, []}
 use lib.ListN.{drop, getD}
-use Rattle.linetext.specs.Pick.{pick}
+use Rattle.rules.specs.Choice.{pick}
 use Rattle.linetext.specs.Cut.{fieldsAt}
 use Rattle.linetext.specs.Number.{isNumber, worth}
 use Rattle.linetext.specs.declared.field.Reading.{Reading}

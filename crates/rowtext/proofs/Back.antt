@@ -7,7 +7,7 @@ use native.Mathlib.Nat.{pow-suc}
 use native.Mathlib.Omega.{arith}
 use lib.Dec.{ltb}
 use borrow.Author.Tests.{ltb-false}
-use Rattle.rowtext.specs.Pick.{pick}
+use Rattle.rules.specs.Choice.{pick}
 use Rattle.rowtext.specs.Digits.{octals, octal6, decimals, decimal}
 
 -- what digits say in a base, after digits that say v
@@ -20,7 +20,7 @@ read-last base v [] d = refl
 read-last base v (x ∷ a) d = read-last base (v * base + (x - 48)) a d
 
 decimals-back : (bound n : ℕ) → n < bound → readFrom 10 0 (decimals bound n) ≡ n
-unfolding decimals
+unfolding decimals pick
 decimals-back zero n h = let z : ⊥ = omega arith in absurd z
 decimals-back (suc bound) n h = by (ltb n 10) refl (decimals-back bound (n / 10))
   where

@@ -8,7 +8,7 @@ use native.Mathlib.Omega.{arith}
 use lib.ListN.{length, length-append}
 use lib.Dec.{ltb}
 use borrow.Author.Tests.{lt-ltb, le-ltb, ltb-true, ltb-false}
-use Rattle.rowtext.specs.Pick.{pick}
+use Rattle.rules.specs.Choice.{pick}
 use Rattle.rowtext.specs.Digits.{octals, decimals, decimal}
 
 -- a digit goes from the end of the number to the front of what is written
@@ -30,7 +30,7 @@ octals-none (suc k) n h = let z : ⊥ = omega arith in absurd z
 
 -- the bound of a decimal number does not matter
 same-decimals : (f g n : ℕ) → n < f → n < g → decimals f n ≡ decimals g n
-unfolding decimals
+unfolding decimals pick
 same-decimals zero g n h k = let z : ⊥ = omega arith in absurd z
 same-decimals (suc f) zero n h k = let z : ⊥ = omega arith in absurd z
 same-decimals (suc f) (suc g) n h k = by (ltb n 10) refl (same-decimals f g (n / 10))
@@ -43,11 +43,11 @@ same-decimals (suc f) (suc g) n h k = by (ltb n 10) refl (same-decimals f g (n /
         ap (λ (l : List ℕ). l ++ (48 + n % 10) ∷ []) (less (omega arith) (omega arith))
 
 pub decimal-last : (n : ℕ) → n < 10 → decimal n ≡ (48 + n) ∷ []
-unfolding decimal decimals
+unfolding decimal decimals pick
 decimal-last n h = simp (lt-ltb n 10 h)
 
 pub decimal-more : (n : ℕ) → 9 < n → decimal n ≡ decimal (n / 10) ++ (48 + n % 10) ∷ []
-unfolding decimal decimals
+unfolding decimal decimals pick
 decimal-more n h =
     simp (le-ltb n 10 h) (ap (λ (l : List ℕ). l ++ (48 + n % 10) ∷ []) (same-decimals n (suc (n / 10)) (n / 10) (omega arith) (omega arith)))
 

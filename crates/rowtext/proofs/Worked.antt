@@ -1,4 +1,5 @@
 -- The output of the paper's example, worked by the definitions.
+use Rattle.rules.specs.Choice.{pick}
 use Prim.Native.Nat.{ℕ}
 use Prim.Native.Char.{code}
 use Prim.Native.String.{String, [] as []ˢ, _∷_ as _∷ˢ_}
@@ -19,5 +20,5 @@ output : (headerOf ≡ bytes "CALL\tANS\tDATA\tPHYS\tKTCS\n")
     × (rowOf 3 0 0o123 (At 0o2004) 0o12 ≡ bytes "3\t0\t000123\t002004\t000012\n")
     × (rowOf 4 4 0 Dash 0o40012 ≡ bytes "4\t4\t000000\t-\t040012\n")
     × (badOf 17 ≡ bytes "BAD\t17\n")
-unfolding headerOf rowOf badOf placeOf octal6 octals decimal decimals bytes
+unfolding headerOf rowOf badOf placeOf octal6 octals decimal decimals bytes pick
 output = (refl, refl, refl, refl, refl, refl)

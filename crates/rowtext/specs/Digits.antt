@@ -2,7 +2,7 @@
 use Prim.Native.Nat.{ℕ, zero, suc, _+_, _/_, _%_}
 use mathlib.Core.List.{List, [], _∷_, _++_}
 use lib.Dec.{ltb}
-use Rattle.rowtext.specs.Pick.{pick}
+use Rattle.rules.specs.Choice.{pick}
 
 -- the last k octal digits of n
 unfoldable pub octals : ℕ → ℕ → List ℕ

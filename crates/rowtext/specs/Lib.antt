@@ -1,5 +1,4 @@
 -- The definitions that the contracts cite.
-pub mod Pick
 pub mod Digits
 pub mod Row
 pub mod Written

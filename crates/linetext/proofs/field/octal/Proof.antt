@@ -1,4 +1,5 @@
 -- `linetext::field::octal` meets its contract. The invariant: the digits passed are octal and say `value`, which fits i digits.
+use Rattle.rules.specs.Choice.{pick}
 use Prim.Native.Nat.{_≤_, _<_, _-_, _^_}
 use mathlib.Core.Path.{_≡_, ap, sym, _∙_}
 use Rattle.linetext.specs.declared.field.Number.the-variants.{Value}
@@ -23,7 +24,7 @@ abbrev μ-loop : tie.MeasureT-loop
 μ-loop field value₀ i₀ value i = length field - i
 
 returns : tie.Need-returns Inv-loop μ-loop
-unfolding numberOf isNumber
+unfolding numberOf isNumber pick
 returns c = simp (c .if1 .taken)
 
 returns-2 : tie.Need-returns-2 Inv-loop μ-loop

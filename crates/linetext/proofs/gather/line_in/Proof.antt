@@ -1,4 +1,5 @@
 -- `linetext::gather::line_in` meets its contract. That the array has 40 bytes is what owning the struct tells.
+use Rattle.rules.specs.Choice.{pick}
 use Prim.Native.Nat.{ℕ, _≤_}
 use mathlib.Core.Path.{_≡_, sym, _∙_}
 use mathlib.Core.List.{List, map}
@@ -16,11 +17,11 @@ field-size : (l : List ℕ) → length (map (λ (v : ℕ). v) l) ≡ 40 → leng
 field-size l e = sym (length-map l (λ (v : ℕ). v)) ∙ e
 
 returns : tie.Need-returns
-unfolding lineIn
+unfolding lineIn pick
 returns c = simp (c .if1 .taken)
 
 returns-2 : tie.Need-returns-2
-unfolding lineIn
+unfolding lineIn pick
 returns-2 c = simp (c .before .before .if1 .left, lt-ltb _ _ (c .if2 .taken))
 
 array-share-prefix-buf : tie.Need-array-share-prefix-buf
@@ -39,7 +40,7 @@ parse-requires : tie.Need-parse-requires
 parse-requires c κs = search needs
 
 returns-3 : tie.Need-returns-3
-unfolding lineIn
+unfolding lineIn pick
 returns-3 c = c .parse .ensures ∙ sym (simp (c .before .before .before .before .if1 .left, le-ltb _ _ (c .before .before .if2 .left)))
 
 pub line-in-spec : {M : Type 1} → statement M

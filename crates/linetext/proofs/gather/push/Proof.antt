@@ -1,4 +1,5 @@
 -- `linetext::gather::push` meets its contract: the test is the definition's.
+use Rattle.rules.specs.Choice.{pick}
 use borrow.Author.Tests.{lt-ltb, le-ltb}
 use Rattle.linetext.specs.Gather.{pushOf}
 use borrow.Author.Needs.{needs}
@@ -12,11 +13,11 @@ add-out : tie.Need-add-out
 add-out c = search needs
 
 returns : tie.Need-returns
-unfolding pushOf
+unfolding pushOf pick
 returns c = simp (lt-ltb _ _ (c .if1 .taken))
 
 returns-2 : tie.Need-returns-2
-unfolding pushOf
+unfolding pushOf pick
 returns-2 c = simp (le-ltb _ _ (c .if1 .left))
 
 pub push-spec : {M : Type 1} → statement M

@@ -1,4 +1,5 @@
 -- `linetext::line::access` meets its contract: the law of five numbers.
+use Rattle.rules.specs.Choice.{pick}
 use borrow.Author.Needs.{needs}
 use mathlib.Core.Path.{sym, _∙_}
 use mathlib.Core.Bool.{true, false}
@@ -25,6 +26,7 @@ finished-requires : tie.Need-finished-requires
 finished-requires c κs = search needs
 
 returns : tie.Need-returns
+unfolding pick
 returns c =
     access-read _ _ _ _ _ _
     (c .before .before .before .before .before .before .first-number .ensures)
@@ -35,6 +37,7 @@ returns c =
     true (sym (c .if1 .taken) ∙ c .before .finished .ensures)
 
 returns-2 : tie.Need-returns-2
+unfolding pick
 returns-2 c =
     access-read _ _ _ _ _ _
     (c .before .before .before .before .before .before .first-number .ensures)

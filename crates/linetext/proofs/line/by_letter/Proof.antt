@@ -1,4 +1,5 @@
 -- `linetext::line::by_letter` meets its contract: the arm of each letter is the definition's.
+use Rattle.rules.specs.Choice.{pick}
 use borrow.Author.Needs.{needs}
 use mathlib.Core.Path.{sym, _∙_}
 use borrow.Author.Tests.{ne-eqb}
@@ -22,27 +23,27 @@ alone-requires-2 : tie.Need-alone-requires-2
 alone-requires-2 c κs = search needs
 
 returns : tie.Need-returns
-unfolding byLetter
+unfolding byLetter pick
 returns c = c .store .ensures ∙ sym (simp (c .before .match .keys1))
 
 returns-2 : tie.Need-returns-2
-unfolding byLetter
+unfolding byLetter pick
 returns-2 c = c .access .ensures ∙ sym (simp (c .before .match .keys2))
 
 returns-3 : tie.Need-returns-3
-unfolding byLetter
+unfolding byLetter pick
 returns-3 c = c .alone .ensures ∙ sym (simp (c .before .match .keys3))
 
 returns-4 : tie.Need-returns-4
-unfolding byLetter
+unfolding byLetter pick
 returns-4 c = c .trap .ensures ∙ sym (simp (c .before .match .keys4))
 
 returns-5 : tie.Need-returns-5
-unfolding byLetter
+unfolding byLetter pick
 returns-5 c = c .alone2 .ensures ∙ sym (simp (c .before .match .keys5))
 
 returns-6 : tie.Need-returns-6
-unfolding byLetter
+unfolding byLetter pick
 returns-6 c = simp (ne-eqb _ _ (c .match .rest .1), ne-eqb _ _ (c .match .rest .0 .1), ne-eqb _ _ (c .match .rest .0 .0 .1), ne-eqb _ _ (c .match .rest .0 .0 .0 .1), ne-eqb _ _ (c .match .rest .0 .0 .0 .0 .1))
 
 pub by-letter-spec : {M : Type 1} → statement M

@@ -1,4 +1,5 @@
 -- `linetext::line::store` meets its contract: the law of two numbers, with an even address.
+use Rattle.rules.specs.Choice.{pick}
 use borrow.Author.Needs.{needs}
 use mathlib.Core.Path.{refl, sym, _∙_}
 use mathlib.Core.Bool.{true, false}
@@ -17,16 +18,19 @@ finished-requires : tie.Need-finished-requires
 finished-requires c κs = search needs
 
 returns : tie.Need-returns
+unfolding pick
 returns c =
     store-read _ _ _ (c .before .before .before .before .before .first-number .ensures) (c .before .before .before .before .next-number .ensures) true true
     (sym (c .before .before .if1 .taken) ∙ c .before .before .before .finished .ensures) (sym (eq-eqb _ _ (c .if2 .taken)))
 
 returns-2 : tie.Need-returns-2
+unfolding pick
 returns-2 c =
     store-read _ _ _ (c .before .before .before .before .before .first-number .ensures) (c .before .before .before .before .next-number .ensures) true false
     (sym (c .before .before .if1 .taken) ∙ c .before .before .before .finished .ensures) (sym (ne-eqb _ _ (c .if2 .left)))
 
 returns-3 : tie.Need-returns-3
+unfolding pick
 returns-3 c =
     store-read _ _ _ (c .before .before .before .first-number .ensures) (c .before .before .next-number .ensures) false _ (sym (c .if1 .left) ∙ c .before .finished .ensures) refl
 
