@@ -44,7 +44,7 @@ fit-is-unit u h =
     range-is-unit u
     (record {
       counts = record { datos = omega (arith, h .core .datos, h .core .accesses); accesses = h .core .accesses };
-      cells = record { number = h .cells .number; from = h .cells .from; below = h .cells .below };
+      cells = h .cells .names;
     })
 
 -- words that are a unit have those ranges, whoever wrote them

@@ -4,7 +4,7 @@ use mathlib.Core.Path.{_≡_, refl, ap}
 use mathlib.Core.Bool.{true}
 use mathlib.Core.List.{List, [], _∷_, map}
 use lib.ListN.{getD}
-use Rattle.rules.specs.Types.{Core, Maps, Call, Place, Physical}
+use Rattle.rules.specs.Types.{Core, Maps, Call, Place, Shown}
 use Rattle.rules.specs.Choice.{pick}
 use Rattle.rules.specs.Memory.{Memory}
 use Rattle.rules.specs.Unit.{cellCount}
@@ -28,9 +28,7 @@ registerAt c r at = wordOf c r (registerFound (foundFrom 0 registers at))
 -- What the host has after a call: the answer's number, data and physical address by 01's table (`shown` of specs/Answers.antt), the sixteen bits of
 -- KTCS, the words of 777600o to 777616o (KTIC, KTSP, KTPC, KTPS, KTAD, KTDT, KTUM and KTEM), and memory.
 pub record HostHas : Type 0 where
-  pub number : ℕ
-  pub datum : ℕ
-  pub physical : Physical
+  pub answer : Shown
   pub ktcs : ℕ
   pub registers : List ℕ
   pub memory : Memory
@@ -38,9 +36,7 @@ pub record HostHas : Type 0 where
 abbrev pub hostHas : Seen → HostHas
 hostHas s =
     record {
-      number = shown (s .answer) .number;
-      datum = shown (s .answer) .datum;
-      physical = shown (s .answer) .physical;
+      answer = shown (s .answer);
       ktcs = packed (s .core .ktcs);
       registers = map (registerAt (s .core) (s .maps)) (wordsFrom 0o777600 8);
       memory = s .memory;

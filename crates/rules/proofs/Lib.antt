@@ -15,6 +15,7 @@ pub mod RunLaws
 pub mod Walks
 pub mod Pages
 pub mod CellsLaws
+pub mod Counter
 pub mod CoreLaws
 -- The promises
 pub mod Promises

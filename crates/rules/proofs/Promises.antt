@@ -397,19 +397,22 @@ InitLeaves = (m : Memory) (u : Unit) → InitKeeps m u (callOf m u Call.Init)
 
 -- Demand 3, first part: always ------------------------------------------------------------------------------------------
 
+-- n cells, one of which the counter names: the first of them is 10 octal
+pub record NamesCell (n : ℕ) (k : Cells) : Type 0 where
+  pub number : length (k .list) ≡ n
+  pub from : 0o10 ≤ k .counter
+  pub below : k .counter < 0o10 + n
+
 -- what holds of the cells of a unit with n of them
 pub record CellsFit (n : ℕ) (k : Cells) : Type 0 where
-  -- the number of cells stays
-  pub number : length (k .list) ≡ n
+  -- their number stays, and the counter names one
+  pub names : NamesCell n k
   -- no page stands in two cells
   pub once : (i j : ℕ) → cellAt k i .tag ≡ cellAt k j .tag → cellAt k i .tag ≢ 0 → i ≡ j
   -- an empty cell holds nothing
   pub empty : (i : ℕ) → cellAt k i .tag ≡ 0 → cellAt k i .word ≡ 0
   -- a tag is that of a page, by 7 bits, with 128 for a user's
   pub tags : (i : ℕ) → cellAt k i .tag < 256
-  -- the counter names a cell, the first of which is 10 octal
-  pub from : 0o10 ≤ k .counter
-  pub below : k .counter < 0o10 + n
 
 -- the wait agrees with FCN and UM (`record {}` asks nothing)
 abbrev pub WaitFits : Wait → ℕ → Bool → Type 0

@@ -1,24 +1,20 @@
 -- The ranges that every call keeps of any unit, also of one that no run reaches: the counts are at most 2, and the counter names a cell.
-use Prim.Native.Nat.{ℕ, _+_, _-_, _≤_, _<_}
-use mathlib.Core.Path.{_≡_, refl, _∙_}
+use Prim.Native.Nat.{ℕ, _-_, _≤_}
+use mathlib.Core.Path.{_≡_, refl}
 use mathlib.Core.Bool.{Bool, _&&_}
 use native.Mathlib.Omega.{arith}
-use lib.Dec.{ltb}
-use lib.ListN.{length, length-set, length-map, length-replicate}
-use borrow.Author.Tests.{ltb-true}
-use Rattle.rules.specs.Types.{Fetch, Core, Maps, Cells, Unit, Access, Call, Found, Register, Place, Part, Walk, Looked, Effect, Job, Ran}
+use Rattle.rules.specs.Types.{Fetch, Core, Cells, Unit, Access, Call, Register, Place, Part, Job, Ran}
 use Rattle.rules.specs.Memory.{Memory}
-use Rattle.rules.specs.Unit.{emptyCell, emptied, clearFetch, withKtcs, withKept, withFetch, initCore}
+use Rattle.rules.specs.Unit.{clearFetch, withKtcs, withKept, withFetch, initCore}
 use Rattle.rules.specs.Status.{flagsClear}
-use Rattle.rules.specs.Registers.{padStored}
-use Rattle.rules.specs.Maps.{execZero, walkOf, tagOf, cellOf, stepped, filled, filledBy, missed, soughtIn, looked, cellForgotten, forgotten}
 use Rattle.rules.specs.Fetched.{isFetch, isDato, counted, normal, instructionNoted, marked, noted, statesMarked, afterFetch}
 use Rattle.rules.specs.Sequences.{serviceAwaited, violated, timedOut, statusStored, programCounterStored, firstReadDone, userStarted, interrupted, trapTaken, trapped}
-use Rattle.rules.specs.Program.{Prog, done, ask, peek, run}
 use Rattle.rules.specs.Order.{outcome, coreStored, storedAt}
-use Rattle.rules.specs.Calls.{cellsAfter, settled, callOf}
+use Rattle.rules.specs.Calls.{settled, callOf}
 use Rattle.rules.proofs.Choices.{picked}
 use Rattle.rules.proofs.CoreLaws.{oneMore-most}
+use Rattle.rules.proofs.Promises.{NamesCell}
+use Rattle.rules.proofs.Counter.{run-names, effect-names}
 use Rattle.rules.proofs.Ways.{There, memory, register, Transfer, read, store}
 use Rattle.rules.proofs.Ways.{Way, misshapen, late, status-stored, program-counter-stored, first-read, second-read, unpaged-odd, unpaged-nowhere, unpaged-window, unpaged-fetch, unpaged-transfer, violation, fetch, transfer, inner-transfer}
 use Rattle.rules.proofs.Ways.{Why, access, interrupt-late, interrupt-taken, unlisted, trap-late, trap-taken, init}
@@ -105,68 +101,6 @@ module _ {m : Memory} {u : Unit} (h : SmallCounts (u .core .fetch)) where
   why-small (trap-taken {v} s e) =
       picked (λ (c : Core). SmallCounts (c .fetch)) (trapTaken (u .core) v) _ _ (λ t. clear-small) (λ t. h)
   why-small init = clear-small
-
--- The counter ------------------------------------------------------------------------------------------------------------
-
--- n cells, one of which the counter names
-pub record NamesCell (n : ℕ) (k : Cells) : Type 0 where
-  pub number : length (k .list) ≡ n
-  pub from : 0o10 ≤ k .counter
-  pub below : k .counter < 0o10 + n
-
-module _ (n : ℕ) where
-  filled-names : (k : Cells) (tag w : ℕ) → NamesCell n k → NamesCell n (filled k tag w)
-  unfolding filled stepped
-  filled-names k tag w h =
-      let (from, below) = steps in
-      record { number = length-set (k .list) (k .counter - 0o10) _ ∙ h .number; from = from; below = below }
-    where
-      steps : (0o10 ≤ filled k tag w .counter) × (filled k tag w .counter < 0o10 + n)
-      steps =
-          rw (h .number)
-          (picked (λ (x : ℕ). (0o10 ≤ x) × (x < 0o10 + n)) (ltb (k .counter) (0o7 + n)) _ _
-          (λ t. omega (arith, h .from, ltb-true (k .counter) (0o7 + n) t)) (λ t. omega (arith, h .from, h .below)))
-
-  filledBy-names : (k : Cells) (tag : ℕ) (w : Walk) → NamesCell n k → NamesCell n (filledBy k tag w)
-  unfolding filledBy
-  filledBy-names k tag (Walk.Direct w at) h = filled-names k tag w h
-  filledBy-names k tag (Walk.Pointed w from at) h = filled-names k tag w h
-  filledBy-names k tag Walk.Off h = h
-
-  sought-names :
-      (m : Memory) (r : Maps) (user : Bool) (p : ℕ) (k : Cells) (f : Found) → NamesCell n k → NamesCell n (soughtIn m r user p k f .cells)
-  unfolding soughtIn missed
-  sought-names m r user p k (Found.At i) h = h
-  sought-names m r user p k Found.Missing h = filledBy-names k (tagOf user p) (walkOf m r user p) h
-
-  looked-names : (m : Memory) (r : Maps) (user : Bool) (p : ℕ) (k : Cells) → NamesCell n k → NamesCell n (looked m r user p k .cells)
-  unfolding looked
-  looked-names m r user p k h =
-      picked (λ (l : Looked). NamesCell n (l .cells)) (execZero user p) _ _ (λ t. h)
-      (λ t. sought-names m r user p k (cellOf k (tagOf user p)) h)
-
-  run-names : (m : Memory) (r : Maps) (p : Prog) (k : Cells) → NamesCell n k → NamesCell n (run m r p k .cells)
-  unfolding run
-  run-names m r (done o) k h = h
-  run-names m r (ask user p f) k h =
-      run-names m r (f (looked m r user p k .entry)) (looked m r user p k .cells) (looked-names m r user p k h)
-  run-names m r (peek g f) k h = run-names m r (f _) k h
-
-  effect-names : (e : Effect) (k : Cells) → NamesCell n k → NamesCell n (cellsAfter e k)
-  unfolding cellsAfter forgotten emptied padStored
-  effect-names Effect.Keep k h = h
-  effect-names (Effect.Forget tag) k h =
-      record { number = length-map (k .list) (cellForgotten tag) ∙ h .number; from = h .from; below = h .below }
-  effect-names (Effect.Reload r) k h =
-      record {
-        number = length-replicate (length (k .list)) emptyCell ∙ h .number;
-        from = omega arith;
-        below = omega (arith, h .from, h .below);
-      }
-  effect-names (Effect.StoreWord at v) k h = h
-  effect-names (Effect.StoreByte at v) k h = h
-  effect-names (Effect.StorePad i p v) k h =
-      record { number = length-set (k .list) i _ ∙ h .number; from = h .from; below = h .below }
 
 -- Both -------------------------------------------------------------------------------------------------------------------
 

@@ -3,16 +3,16 @@ use mathlib.Core.Path.{_≡_, refl, sym, ap, _∙_}
 use mathlib.Core.Logic.{_⊎_, inl, inr, ⊎-elim}
 use mathlib.Core.Bool.{Bool, false}
 use mathlib.Core.List.{List, [], _∷_}
-use Prim.Native.Nat.{ℕ, _+_, _-_, _≤_, _<_}
+use Prim.Native.Nat.{ℕ, _-_, _<_}
 use native.Mathlib.Omega.{arith}
-use lib.Dec.{eqb, ltb}
-use lib.ListN.{length, getD, set, length-set, length-map, length-replicate}
-use borrow.Author.Tests.{eqb-false, ltb-true}
+use lib.Dec.{eqb}
+use lib.ListN.{length, getD, set, length-replicate}
+use borrow.Author.Tests.{eqb-false}
 use Rattle.rules.specs.Types.{Maps, Cell, Cells, Unit, Call, Found, Part, Walk, Effect, Outcome, Looked}
 use Rattle.rules.specs.Memory.{Memory}
 use Rattle.rules.specs.Unit.{zeroUnit, emptyCell, emptied}
 use Rattle.rules.specs.Registers.{cellStored, padStored}
-use Rattle.rules.specs.Maps.{execZero, walkOf, tagOf, tagIn, cellOf, stepped, filled, filledBy, missed, soughtIn, looked, holds, cellForgotten, forgotten}
+use Rattle.rules.specs.Maps.{execZero, walkOf, tagOf, tagIn, cellOf, filled, filledBy, missed, soughtIn, looked, holds, forgotten}
 use Rattle.rules.specs.Program.{Prog, run}
 use Rattle.rules.specs.Order.{outcome}
 use Rattle.rules.specs.Calls.{called, initOf, cellsAfter, settled, callOf, freshWith}
@@ -20,6 +20,7 @@ use Rattle.rules.specs.Runs.{Turn, unitAfter, stationAfter}
 use Rattle.rules.proofs.Choices.{picked}
 use Rattle.rules.proofs.Lists.{getD-set-either, set-cases}
 use Rattle.rules.proofs.Pages.{tagOf-below, tag-other}
+use Rattle.rules.proofs.Counter.{emptied-names, forgotten-names, padStored-names, filled-names}
 use Rattle.rules.proofs.CellsLaws.{empty-tag, missing-has-none, cell-emptied, cell-forgotten}
 use Rattle.rules.proofs.CoreLaws.{initCore-fits}
 use Rattle.rules.proofs.Always.{Always, ends, asks, peeks-at}
@@ -53,12 +54,10 @@ module _ (n : ℕ) where
   unfolding emptied
   emptied-fit k l z =
       record {
-        number = length-replicate (length (k .list)) emptyCell ∙ l;
+        names = emptied-names n k l z;
         once = λ i j e o. absurd (o (ap (λ (c : Cell). c .tag) (cell-emptied k i) ∙ empty-tag));
         empty = λ i. rw (cell-emptied k i) (emptyCell-fit .empty);
         tags = λ i. rw (cell-emptied k i) (emptyCell-fit .tag);
-        from = omega arith;
-        below = omega arith;
       }
 
   module _ (k : Cells) (h : CellsFit n k) where
@@ -66,7 +65,7 @@ module _ (n : ℕ) where
     cell-fit i = record { empty = h .empty i; tag = h .tags i }
 
     some-cell : 0 < n
-    some-cell = omega (arith, h .from, h .below)
+    some-cell = omega (arith, h .names .from, h .names .below)
 
     -- Cells that hold no page in another place than before hold none twice.
     once-still :
@@ -81,12 +80,10 @@ module _ (n : ℕ) where
     unfolding forgotten
     forgotten-fit tag =
         record {
-          number = length-map (k .list) (cellForgotten tag) ∙ h .number;
+          names = forgotten-names n k tag (h .names);
           once = once-still (forgotten k tag) same;
           empty = λ i. fit i .empty;
           tags = λ i. fit i .tag;
-          from = h .from;
-          below = h .below;
         }
       where
         fit : (i : ℕ) → CellFit (cellAt (forgotten k tag) i)
@@ -102,12 +99,10 @@ module _ (n : ℕ) where
     unfolding padStored tagIn
     padStored-fit i p v =
         record {
-          number = length-set (k .list) i _ ∙ h .number;
+          names = padStored-names n k i p v (h .names);
           once = once-still (padStored k i p v) (λ j z. same j);
           empty = λ j. fit j .empty;
           tags = λ j. fit j .tag;
-          from = h .from;
-          below = h .below;
         }
       where
         fit : (j : ℕ) → CellFit (cellAt (padStored k i p v) j)
@@ -117,14 +112,6 @@ module _ (n : ℕ) where
         same j =
             ⊎-elim (λ a. ap tagIn (a .1) ∙ cellStored-tag (cellAt k i) p v ∙ ap (λ (x : ℕ). cellAt k x .tag) (sym (a .0))) (λ a. ap tagIn a)
             (set-cases (k .list) j i (cellStored (cellAt k i) p v) emptyCell)
-
-    -- the counter goes to the next cell, or round
-    stepped-names : (0o10 ≤ stepped (length (k .list)) (k .counter)) × (stepped (length (k .list)) (k .counter) < 0o10 + n)
-    unfolding stepped
-    stepped-names =
-        rw (h .number)
-        (picked (λ (x : ℕ). (0o10 ≤ x) × (x < 0o10 + n)) (ltb (k .counter) (0o7 + n)) _ _
-        (λ t. omega (arith, h .from, ltb-true (k .counter) (0o7 + n) t)) (λ t. omega (arith, some-cell)))
 
     module _ (tag : ℕ) (z : tag ≡ 0 → ⊥) (b : tag < 256) (missing : cellOf k tag ≡ Found.Missing) where
       filled-once :
@@ -153,12 +140,10 @@ module _ (n : ℕ) where
       unfolding filled
       filled-fit w =
           record {
-            number = length-set (k .list) (k .counter - 0o10) _ ∙ h .number;
+            names = filled-names n k tag w (h .names);
             once = filled-once w;
             empty = λ i. fit i .empty;
             tags = λ i. fit i .tag;
-            from = stepped-names .0;
-            below = stepped-names .1;
           }
         where
           fit : (i : ℕ) → CellFit (cellAt (filled k tag w) i)
@@ -185,7 +170,7 @@ module _ (n : ℕ) where
     unfolding cellsAfter
     effect-fit Effect.Keep = h
     effect-fit (Effect.Forget tag) = forgotten-fit tag
-    effect-fit (Effect.Reload r) = emptied-fit k (h .number) some-cell
+    effect-fit (Effect.Reload r) = emptied-fit k (h .names .number) some-cell
     effect-fit (Effect.StoreWord at v) = h
     effect-fit (Effect.StoreByte at v) = h
     effect-fit (Effect.StorePad i p v) = padStored-fit i p v
