@@ -27,11 +27,15 @@ placeRead u Place.Nowhere = misshapen
 unfoldable pub registerRead : List ℕ → ℕ → ℕ
 registerRead w n = pick (isUnit w) (pick (ltb n 11) (placeRead (decoded w) (registerOf n)) misshapen) noUnit
 
-unfoldable pub tagRead : List ℕ → ℕ → ℕ
-tagRead w i = pick (isUnit w) (pick (ltb i cellCount) (told 0 (getD (decoded w .cells .list) i emptyCell .tag)) misshapen) noUnit
+-- a number x that is read of the cell at this place: its tag or its word
+unfoldable pub cellRead : List ℕ → ℕ → ℕ → ℕ
+cellRead w i x = pick (isUnit w) (pick (ltb i cellCount) (told 0 x) misshapen) noUnit
 
-unfoldable pub wordRead : List ℕ → ℕ → ℕ
-wordRead w i = pick (isUnit w) (pick (ltb i cellCount) (told 0 (getD (decoded w .cells .list) i emptyCell .word)) misshapen) noUnit
+abbrev pub tagRead : List ℕ → ℕ → ℕ
+tagRead w i = cellRead w i (getD (decoded w .cells .list) i emptyCell .tag)
+
+abbrev pub wordRead : List ℕ → ℕ → ℕ
+wordRead w i = cellRead w i (getD (decoded w .cells .list) i emptyCell .word)
 
 unfoldable pub counterRead : List ℕ → ℕ
 counterRead w = pick (isUnit w) (told 0 (decoded w .cells .counter)) noUnit

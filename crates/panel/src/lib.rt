@@ -1,9 +1,13 @@
 // What a front panel or a debugger reads of the words of a unit, and where a map page lies. Nothing here changes anything.
 use rules::CELLS;
+use rules::Cell;
 use rules::Place;
 use rules::Unit;
 ghost use mathlib.Core.Path.{_≡_};
-ghost use Rattle.panel.specs.Panel.{placeRead, registerRead, tagRead, wordRead, counterRead, waitRead, pagePlace};
+ghost use lib.ListN.{getD};
+ghost use Rattle.rules.specs.Unit.{emptyCell};
+ghost use Rattle.coding.specs.Coding.{decoded};
+ghost use Rattle.panel.specs.Panel.{placeRead, registerRead, cellRead, tagRead, wordRead, counterRead, waitRead, pagePlace};
 
 // The number that says that there is no page.
 const NO_PAGE: usize = 0xffffffffffffffff;
@@ -36,34 +40,38 @@ pub fn register_read(w: [u16; coding::WORDS], number: usize) -> u64
     replies::no_unit()
 }
 
-pub fn tag_read(w: [u16; coding::WORDS], index: usize) -> u64
-    ensures { λ r. ⌜ r ≡ tagRead w index ⌝ }
+// A number that is read of the cell at this place, if there is such a cell.
+fn cell_read(w: [u16; coding::WORDS], index: usize, number: u16) -> u64
+    ensures { λ r. ⌜ r ≡ cellRead w index number ⌝ }
 {
     if coding::is_unit(w) {
         if index < CELLS {
-            let u = coding::decoded(w);
-            let k = u.cells;
-            let list = k.list;
-            return replies::told(0, cells::cell_at(list, index).tag);
+            return replies::told(0, number);
         }
         return replies::misshapen();
     }
     replies::no_unit()
 }
 
+fn cell_in(w: [u16; coding::WORDS], index: usize) -> Cell
+    ensures { λ r. ⌜ r ≡ getD (decoded w .cells .list) index emptyCell ⌝ }
+{
+    let u = coding::decoded(w);
+    let k = u.cells;
+    let list = k.list;
+    cells::cell_at(list, index)
+}
+
+pub fn tag_read(w: [u16; coding::WORDS], index: usize) -> u64
+    ensures { λ r. ⌜ r ≡ tagRead w index ⌝ }
+{
+    cell_read(w, index, cell_in(w, index).tag)
+}
+
 pub fn word_read(w: [u16; coding::WORDS], index: usize) -> u64
     ensures { λ r. ⌜ r ≡ wordRead w index ⌝ }
 {
-    if coding::is_unit(w) {
-        if index < CELLS {
-            let u = coding::decoded(w);
-            let k = u.cells;
-            let list = k.list;
-            return replies::told(0, cells::cell_at(list, index).word);
-        }
-        return replies::misshapen();
-    }
-    replies::no_unit()
+    cell_read(w, index, cell_in(w, index).word)
 }
 
 pub fn counter_read(w: [u16; coding::WORDS]) -> u64

@@ -1,52 +1,17 @@
 -- `panel::word_read` meets its contract.
-use Rattle.rules.specs.Choice.{pick}
-use Rattle.panel.specs.Panel.{wordRead}
 use mathlib.Core.Path.{sym}
-use borrow.Author.Tests.{lt-ltb, le-ltb}
 use borrow.Author.Needs.{needs}
 use Rattle.panel.proofs.word_read.Statement.{statement}
 use Rattle.panel.proofs.word_read.Tie as tie
 
-is-unit-requires : tie.Need-is-unit-requires
-is-unit-requires c κs = search needs
+cell-in-requires : tie.Need-cell-in-requires
+cell-in-requires c κs = search needs
 
-decoded-requires : tie.Need-decoded-requires
-decoded-requires c κs = search needs
-
-cell-at-requires : tie.Need-cell-at-requires
-cell-at-requires c κs = search needs
-
-told-requires : tie.Need-told-requires
-told-requires c κs = search needs
+cell-read-requires : tie.Need-cell-read-requires
+cell-read-requires c κs = search needs
 
 returns : tie.Need-returns
-unfolding wordRead pick
-returns c = simp (sym (c .told .ensures), sym (c .before .cell-at .ensures), sym (c .before .before .before .before .decoded .ensures), lt-ltb _ _ (c .before .before .before .before .before .if2 .taken), c .before .before .before .before .before .before .if1 .taken, sym (c .before .before .before .before .before .before .before .is-unit .ensures))
-
-misshapen-requires : tie.Need-misshapen-requires
-misshapen-requires c κs = search needs
-
-returns-2 : tie.Need-returns-2
-unfolding wordRead pick
-returns-2 c = simp (sym (c .misshapen .ensures), le-ltb _ _ (c .before .if2 .left), c .before .before .if1 .taken, sym (c .before .before .before .is-unit .ensures))
-
-no-unit-requires : tie.Need-no-unit-requires
-no-unit-requires c κs = search needs
-
-returns-3 : tie.Need-returns-3
-unfolding wordRead pick
-returns-3 c = simp (sym (c .no-unit .ensures), c .before .if1 .left, sym (c .before .before .is-unit .ensures))
+returns c = simp (sym (c .before .cell-in .ensures)) (c .cell-read .ensures)
 
 pub word-read-spec : {M : Type 1} → statement M
-word-read-spec =
-    tie.close
-    (tie.spec
-    is-unit-requires
-    decoded-requires
-    cell-at-requires
-    told-requires
-    returns
-    misshapen-requires
-    returns-2
-    no-unit-requires
-    returns-3)
+word-read-spec = tie.close (tie.spec cell-in-requires cell-read-requires returns)
