@@ -14,8 +14,8 @@ use Rattle.rules.specs.declared.Unit.{Unit}
 use Rattle.rules.specs.Choice.{pick}
 use Rattle.rules.specs.Unit.{emptyCell}
 use Rattle.rules.specs.Status.{packed, unpacked}
-use Rattle.rules.proofs.Choices.{both-true}
-use Rattle.rules.proofs.StatusLaws.{packed-unpacked, unpacked-packed}
+use Rattle.rules.proofs.Laws.Choices.{both-true}
+use Rattle.rules.proofs.Laws.StatusLaws.{packed-unpacked, unpacked-packed}
 use Rattle.coding.specs.Coding.{firstWord, lastWord, waitNumber, waitOf, flagNumber, isUnit, coreOf, mapsOf, listOf, decoded, coreWords, cellWords, cellsWords, coded}
 use Rattle.coding.proofs.Fronts.{elements, elements-same, by-elements}
 

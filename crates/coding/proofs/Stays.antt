@@ -11,9 +11,9 @@ use Rattle.rules.specs.declared.Call.{Call}
 use Rattle.rules.specs.Memory.{Memory}
 use Rattle.rules.specs.Unit.{cellCount}
 use Rattle.rules.specs.Calls.{callOf}
-use Rattle.rules.proofs.StatusLaws.{packed-zeros}
+use Rattle.rules.proofs.Laws.StatusLaws.{packed-zeros}
 use Rattle.rules.proofs.Promises.{UnitFit}
-use Rattle.rules.proofs.Ranges.{InRange, call-in-range}
+use Rattle.rules.proofs.Demand3.Ranges.{InRange, call-in-range}
 use Rattle.coding.specs.Coding.{waitNumber, flagNumber, isUnit, coreOf, listOf, decoded, coreWords, cellWords, cellsWords, coded}
 use Rattle.coding.proofs.Laws.{UnitWords, unit-words}
 

@@ -19,7 +19,7 @@ use Rattle.rules.specs.Order.{accessed}
 use Rattle.rules.specs.Calls.{After, called, settled, callOf}
 use Rattle.rules.specs.Calls.{memoryAfter as effectOn}
 use Rattle.coding.specs.Coding.{isUnit, coreOf, listOf, decoded, coreWords, cellsWords, coded}
-use Rattle.rules.proofs.Choices.{picked}
+use Rattle.rules.proofs.Laws.Choices.{picked}
 use Rattle.coding.proofs.Laws.{cells-stay}
 use Rattle.coding.proofs.Stays.{unit-stays}
 use Rattle.quick.specs.declared.Attempt.{Attempt}

@@ -10,7 +10,7 @@ use lib.Dec.{ltb, eqb}
 use lib.Seq.{take-suc-set}
 use borrow.Author.Tests.{le-ltb, ltb-true, ltb-false, eqb-true}
 use Rattle.rules.specs.Choice.{pick}
-use Rattle.rules.proofs.Choices.{pick-same}
+use Rattle.rules.proofs.Laws.Choices.{pick-same}
 use Rattle.linetext.specs.Cut.{onto, fields, headOf, fieldsAt}
 use Rattle.linetext.specs.Number.{allOctal, worth, isNumber}
 use Rattle.linetext.specs.Line.{allNumbers, numbers, storeOf, accessOf, trapOf, aloneOf, byLetter, byName, fromFields, lineOf}

@@ -13,7 +13,7 @@ use Rattle.rules.specs.Unit.{withKtcs, withKept, withFetch}
 use Rattle.rules.specs.Status.{flagsClear, withStates}
 use Rattle.rules.specs.Fetched.{kindOf, isFetch, counted, normal, destinationOnly, sourceBy, destinationBy, sourceSet, destinationSet, statesMarked, instructionNoted, marked, noted}
 use Rattle.rules.specs.Steps.{watches}
-use Rattle.rules.proofs.Choices.{both-true}
+use Rattle.rules.proofs.Laws.Choices.{both-true}
 use Rattle.quick.specs.Usual.{isIdle, isPlain, calm, fetchNoted, otherFetch, otherNoted}
 
 idle-is : (w : Wait) → isIdle w ≡ true → w ≡ Wait.Nothing

@@ -33,8 +33,8 @@ use Rattle.rules.specs.Steps.{wellShaped, oddWord, judged, watches, dueWhen, du
 use Rattle.rules.specs.Program.{Prog, done, ask, run}
 use Rattle.rules.specs.Order.{outcome, sourceAt, readFrom, readAt, fetched, flagAfter, memoryEffect, storedAt, transferred, wordJudged, pagedReached, outerTarget, outerRuled, pagedFrom, afterWait, accessed}
 use Rattle.rules.specs.Calls.{mapsAfter, cellsAfter}
-use Rattle.rules.proofs.Choices.{both-true}
-use Rattle.rules.proofs.RunLaws.{run-done, run-ask}
+use Rattle.rules.proofs.Laws.Choices.{both-true}
+use Rattle.rules.proofs.Laws.RunLaws.{run-done, run-ask}
 use Rattle.quick.specs.declared.Attempt.{Attempt}
 use Rattle.quick.specs.Usual.{calm, usual, fetchNoted, otherNoted, Quiet, Sound}
 use Rattle.quick.proofs.Noted.{IsCalm, is-calm, noted-fetch, noted-other, noted-um, noted-watches}

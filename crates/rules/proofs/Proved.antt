@@ -1,13 +1,13 @@
 -- All promises of demands 1 and 3, each from the file that proves it.
 use Rattle.rules.proofs.Promises.{Promises}
-use Rattle.rules.proofs.InOrder.{answered-in-order}
-use Rattle.rules.proofs.Ended.{numbers-of-steps, numbered, memory-untouched, length-kept, refused-unchanged, unpaged-refusal, paged-refusal}
-use Rattle.rules.proofs.Bits.{eighteen-bits}
-use Rattle.rules.proofs.Kept.{step4-leaves, step6-leaves}
-use Rattle.rules.proofs.Interrupts.{interrupt-leaves, trap-leaves, exec-trap-unchanged, other-trap-unchanged, init-leaves}
-use Rattle.rules.proofs.Wellformed.{always-fit}
-use Rattle.rules.proofs.Pages.{exec-zero-uncelled}
-use Rattle.rules.proofs.SameRun.{cells-true-throughout, same-as-plain}
+use Rattle.rules.proofs.Demand1.InOrder.{answered-in-order}
+use Rattle.rules.proofs.Demand1.Ended.{numbers-of-steps, numbered, memory-untouched, length-kept, refused-unchanged, unpaged-refusal, paged-refusal}
+use Rattle.rules.proofs.Demand1.Bits.{eighteen-bits}
+use Rattle.rules.proofs.Demand1.Kept.{step4-leaves, step6-leaves}
+use Rattle.rules.proofs.Demand1.Interrupts.{interrupt-leaves, trap-leaves, exec-trap-unchanged, other-trap-unchanged, init-leaves}
+use Rattle.rules.proofs.Demand3.Wellformed.{always-fit}
+use Rattle.rules.proofs.Laws.Pages.{exec-zero-uncelled}
+use Rattle.rules.proofs.Demand3.SameRun.{cells-true-throughout, same-as-plain}
 
 pub promises : Promises
 promises =

@@ -1,7 +1,7 @@
 -- `access::accessed` meets its contract.
 use Rattle.rules.specs.Order.{accessed}
 use Rattle.rules.specs.Choice.{pick}
-use Rattle.rules.proofs.RunLaws.{run-done}
+use Rattle.rules.proofs.Laws.RunLaws.{run-done}
 use mathlib.Core.Path.{sym}
 use borrow.Author.Needs.{needs}
 use Rattle.access.proofs.accessed.Statement.{statement}

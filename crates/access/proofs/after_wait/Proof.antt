@@ -1,6 +1,6 @@
 -- `access::after_wait` meets its contract.
 use Rattle.rules.specs.Order.{afterWait}
-use Rattle.rules.proofs.RunLaws.{run-done}
+use Rattle.rules.proofs.Laws.RunLaws.{run-done}
 use mathlib.Core.Path.{sym}
 use borrow.Author.Needs.{needs}
 use Rattle.access.proofs.after_wait.Statement.{statement}

@@ -1,7 +1,7 @@
 -- `benchwork::line` meets its contract.
 use mathlib.Core.Path.{sym, _∙_}
 use denote.Ref.{now}
-use Rattle.rules.proofs.Interrupts.{interrupt-leaves, trap-leaves, init-leaves}
+use Rattle.rules.proofs.Demand1.Interrupts.{interrupt-leaves, trap-leaves, init-leaves}
 use Rattle.benchwork.specs.Bench.{callDone, lineDone}
 use borrow.Author.Needs.{needs}
 use Rattle.benchwork.proofs.line.Statement.{statement}

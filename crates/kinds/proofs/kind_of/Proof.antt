@@ -1,5 +1,5 @@
 -- `kinds::kind_of` meets its contract.
-use Rattle.rules.proofs.KindLaws.{jsr-word, low-word, other-word, rts-word, trap-word}
+use Rattle.rules.proofs.Laws.KindLaws.{jsr-word, low-word, other-word, rts-word, trap-word}
 use Rattle.rules.specs.Choice.{pick}
 use Rattle.rules.specs.Fetched.{between, kindOf}
 use native.Mathlib.Omega.{arith}

@@ -1,5 +1,5 @@
 -- `memory::byte_at` meets its contract.
-use Rattle.rules.proofs.MemoryLaws.{byteAt-past}
+use Rattle.rules.proofs.Laws.MemoryLaws.{byteAt-past}
 use Rattle.rules.specs.Memory.{byteAt}
 use mathlib.Core.Path.{sym}
 use lib.ListN.{List·getD-eq-default}

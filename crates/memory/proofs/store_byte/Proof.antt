@@ -1,5 +1,5 @@
 -- `memory::store_byte` meets its contract.
-use Rattle.rules.proofs.MemoryLaws.{storeByte-past}
+use Rattle.rules.proofs.Laws.MemoryLaws.{storeByte-past}
 use Rattle.rules.specs.Memory.{storeByte}
 use mathlib.Core.Path.{sym}
 use lib.Seq.{set-out}

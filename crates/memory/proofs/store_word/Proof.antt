@@ -1,5 +1,5 @@
 -- `memory::store_word` meets its contract.
-use Rattle.rules.proofs.MemoryLaws.{storeWord-bytes, storeWord-past}
+use Rattle.rules.proofs.Laws.MemoryLaws.{storeWord-bytes, storeWord-past}
 use mathlib.Core.Path.{sym}
 use borrow.Author.Needs.{needs}
 use Rattle.memory.proofs.store_word.Statement.{statement}

@@ -1,6 +1,6 @@
 -- `memory::word_at` meets its contract.
 use Rattle.rules.specs.Memory.{wordAt}
-use Rattle.rules.proofs.MemoryLaws.{wordAt-past}
+use Rattle.rules.proofs.Laws.MemoryLaws.{wordAt-past}
 use mathlib.Core.Path.{sym}
 use borrow.Author.Needs.{needs}
 use Rattle.memory.proofs.word_at.Statement.{statement}

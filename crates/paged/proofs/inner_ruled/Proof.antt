@@ -1,6 +1,6 @@
 -- `paged::inner_ruled` meets its contract.
 use Rattle.rules.specs.Order.{innerRuled}
-use Rattle.rules.proofs.RunLaws.{run-done}
+use Rattle.rules.proofs.Laws.RunLaws.{run-done}
 use mathlib.Core.Path.{sym}
 use borrow.Author.Needs.{needs}
 use Rattle.paged.proofs.inner_ruled.Statement.{statement}

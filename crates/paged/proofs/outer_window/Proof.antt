@@ -1,6 +1,6 @@
 -- `paged::outer_window` meets its contract.
 use Rattle.rules.specs.Choice.{pick}
-use Rattle.rules.proofs.RunLaws.{run-done}
+use Rattle.rules.proofs.Laws.RunLaws.{run-done}
 use mathlib.Core.Path.{sym}
 use borrow.Author.Needs.{needs}
 use Rattle.paged.proofs.outer_window.Statement.{statement}

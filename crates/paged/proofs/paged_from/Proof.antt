@@ -1,7 +1,7 @@
 -- `paged::paged_from` meets its contract.
 use Rattle.rules.specs.Order.{pagedFrom}
 use Rattle.rules.specs.Choice.{pick}
-use Rattle.rules.proofs.RunLaws.{run-done, run-ask}
+use Rattle.rules.proofs.Laws.RunLaws.{run-done, run-ask}
 use mathlib.Core.Path.{sym}
 use borrow.Author.Needs.{needs}
 use Rattle.paged.proofs.paged_from.Statement.{statement}

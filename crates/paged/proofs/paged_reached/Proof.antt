@@ -1,7 +1,7 @@
 -- `paged::paged_reached` meets its contract.
 use Rattle.rules.specs.Order.{pagedReached}
 use Rattle.rules.specs.Choice.{pick}
-use Rattle.rules.proofs.RunLaws.{run-done, run-readAt}
+use Rattle.rules.proofs.Laws.RunLaws.{run-done, run-readAt}
 use mathlib.Core.Path.{sym}
 use borrow.Author.Needs.{needs}
 use Rattle.paged.proofs.paged_reached.Statement.{statement}

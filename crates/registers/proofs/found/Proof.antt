@@ -1,6 +1,6 @@
 -- `registers::found` meets its contract.
 use Prim.Native.Nat.{_-_, _≤_}
-use Rattle.rules.proofs.SearchLaws.{foundFrom-end, foundFrom-here, foundFrom-later}
+use Rattle.rules.proofs.Laws.SearchLaws.{foundFrom-end, foundFrom-here, foundFrom-later}
 use Rattle.rules.specs.Registers.{foundFrom}
 use borrow.Author.Needs.{needs}
 use lib.ListN.{drop, length}

@@ -1,7 +1,7 @@
 -- `transfer::transferred` meets its contract.
 use Rattle.rules.specs.Choice.{pick}
 use Rattle.rules.specs.Order.{transferred, outcome}
-use Rattle.rules.proofs.RunLaws.{run-pick, run-done, run-readAt}
+use Rattle.rules.proofs.Laws.RunLaws.{run-pick, run-done, run-readAt}
 use mathlib.Core.Path.{sym}
 use borrow.Author.Tests.{lt-ltb, le-ltb}
 use borrow.Author.Needs.{needs}

@@ -1,6 +1,6 @@
 -- `unit::init` meets its contract.
 use mathlib.Core.Path.{_∙_, sym}
-use Rattle.rules.proofs.RunLaws.{run-done}
+use Rattle.rules.proofs.Laws.RunLaws.{run-done}
 use Rattle.rules.specs.Calls.{callOf, called}
 use borrow.Author.Needs.{needs}
 use Rattle.unit.proofs.init.Statement.{statement}

@@ -1,7 +1,7 @@
 -- `unpaged::unpaged_from` meets its contract.
 use Rattle.rules.specs.Order.{unpagedFrom}
 use Rattle.rules.specs.Choice.{pick}
-use Rattle.rules.proofs.RunLaws.{run-done}
+use Rattle.rules.proofs.Laws.RunLaws.{run-done}
 use mathlib.Core.Path.{sym}
 use borrow.Author.Needs.{needs}
 use Rattle.unpaged.proofs.unpaged_from.Statement.{statement}

@@ -1,7 +1,7 @@
 -- `unpaged::unpaged_reached` meets its contract.
 use Rattle.rules.specs.Order.{unpagedReached}
 use Rattle.rules.specs.Choice.{pick}
-use Rattle.rules.proofs.RunLaws.{run-done, run-readAt}
+use Rattle.rules.proofs.Laws.RunLaws.{run-done, run-readAt}
 use mathlib.Core.Path.{sym}
 use borrow.Author.Needs.{needs}
 use Rattle.unpaged.proofs.unpaged_reached.Statement.{statement}

@@ -1,6 +1,6 @@
 -- `unpaged::unpaged_target` meets its contract.
 use Rattle.rules.specs.Order.{unpagedTarget}
-use Rattle.rules.proofs.RunLaws.{run-done}
+use Rattle.rules.proofs.Laws.RunLaws.{run-done}
 use mathlib.Core.Path.{sym}
 use borrow.Author.Needs.{needs}
 use Rattle.unpaged.proofs.unpaged_target.Statement.{statement}

@@ -1,0 +1,5 @@
+-- What is stated beyond the promises, and where a reader comes in next: every way to end, the premises in 01's words, the host's numbers, one outcome.
+pub mod Ways
+pub mod PremiseWords
+pub mod HostView
+pub mod OneOutcome
