@@ -57,19 +57,19 @@ pub fn physical_at(page: u16, a: u16) -> usize
 pub fn resident_bit(w: u16) -> bool
     ensures { λ r. ⌜ r ≡ residentBit w ⌝ }
 {
-    w / 0x8000 % 2 == 1
+    w / 0o100000 % 2 == 1
 }
 
 pub fn public_bit(w: u16) -> bool
     ensures { λ r. ⌜ r ≡ publicBit w ⌝ }
 {
-    w / 0x4000 % 2 == 1
+    w / 0o40000 % 2 == 1
 }
 
 pub fn write_bit(w: u16) -> bool
     ensures { λ r. ⌜ r ≡ writeBit w ⌝ }
 {
-    w / 0x2000 % 2 == 1
+    w / 0o20000 % 2 == 1
 }
 
 // The physical page of a map word, a map register (M) or a pointer (m).

@@ -36,13 +36,13 @@ physicalAt page a = 512 * page + low9 a
 
 -- A map word: "bit 15 resident, 14 public, 13 write-enabled .., 8-0 physical page; 12-9 ignored"
 unfoldable pub residentBit : ℕ → Bool
-residentBit w = bitIn w 0x8000
+residentBit w = bitIn w 0o100000
 
 unfoldable pub publicBit : ℕ → Bool
-publicBit w = bitIn w 0x4000
+publicBit w = bitIn w 0o40000
 
 unfoldable pub writeBit : ℕ → Bool
-writeBit w = bitIn w 0x2000
+writeBit w = bitIn w 0o20000
 
 -- "N=0 counts as 128": how many pages a map register calls simple. Both maps and all callers go by `simple`, which is the one boundary.
 unfoldable pub simpleCount : ℕ → ℕ

@@ -17,23 +17,23 @@ bitIn w v = eqb (w / v % 2) 1
 -- taken by its two bits, whatever number it is.
 unfoldable pub packed : Ktcs → ℕ
 packed s =
-    s .fcn % 4 + bitOf (s .ss) 4 + bitOf (s .ds) 8 + bitOf (s .um) 16 + bitOf (s .iu) 32 + bitOf (s .rv) 2048 + bitOf (s .pv) 4096
-    + bitOf (s .wv) 8192 + bitOf (s .av) 16384 + bitOf (s .iv) 32768
+    s .fcn % 4 + bitOf (s .ss) 0o4 + bitOf (s .ds) 0o10 + bitOf (s .um) 0o20 + bitOf (s .iu) 0o40 + bitOf (s .rv) 0o4000 + bitOf (s .pv) 0o10000
+    + bitOf (s .wv) 0o20000 + bitOf (s .av) 0o40000 + bitOf (s .iv) 0o100000
 
 -- and back
 unfoldable pub unpacked : ℕ → Ktcs
 unpacked w =
     record {
       fcn = w % 4;
-      ss = bitIn w 4;
-      ds = bitIn w 8;
-      um = bitIn w 16;
-      iu = bitIn w 32;
-      rv = bitIn w 2048;
-      pv = bitIn w 4096;
-      wv = bitIn w 8192;
-      av = bitIn w 16384;
-      iv = bitIn w 32768;
+      ss = bitIn w 0o4;
+      ds = bitIn w 0o10;
+      um = bitIn w 0o20;
+      iu = bitIn w 0o40;
+      rv = bitIn w 0o4000;
+      pv = bitIn w 0o10000;
+      wv = bitIn w 0o20000;
+      av = bitIn w 0o40000;
+      iv = bitIn w 0o100000;
     }
 
 -- KTCS with FCN, UM and IU changed, and nothing else

@@ -15,9 +15,9 @@ pub fn bit(b: bool, v: u16) -> u16
 
 // FCN, SS, DS, UM and IU.
 fn low_bits(s: Ktcs) -> u16
-    ensures { λ r. ⌜ (r ≡ s .fcn % 4 + bitOf (s .ss) 4 + bitOf (s .ds) 8 + bitOf (s .um) 16 + bitOf (s .iu) 32) × (r < 64) ⌝ }
+    ensures { λ r. ⌜ (r ≡ s .fcn % 4 + bitOf (s .ss) 0o4 + bitOf (s .ds) 0o10 + bitOf (s .um) 0o20 + bitOf (s .iu) 0o40) × (r < 0o100) ⌝ }
 {
-    s.fcn % 4 + bit(s.ss, 4) + bit(s.ds, 8) + bit(s.um, 16) + bit(s.iu, 32)
+    s.fcn % 4 + bit(s.ss, 0o4) + bit(s.ds, 0o10) + bit(s.um, 0o20) + bit(s.iu, 0o40)
 }
 
 // "KTCS (H): FCN bits 1-0, SS 2, DS 3, UM 4, IU 5, RV 11, PV 12, WV 13, AV 14, IV 15; others read 0."
@@ -25,11 +25,11 @@ pub fn packed(s: Ktcs) -> u16
     ensures { λ r. ⌜ r ≡ packed s ⌝ }
 {
     low_bits(s)
-        + bit(s.rv, 2048)
-        + bit(s.pv, 4096)
-        + bit(s.wv, 8192)
-        + bit(s.av, 16384)
-        + bit(s.iv, 32768)
+        + bit(s.rv, 0o4000)
+        + bit(s.pv, 0o10000)
+        + bit(s.wv, 0o20000)
+        + bit(s.av, 0o40000)
+        + bit(s.iv, 0o100000)
 }
 
 pub fn unpacked(w: u16) -> Ktcs
@@ -37,15 +37,15 @@ pub fn unpacked(w: u16) -> Ktcs
 {
     Ktcs {
         fcn: w % 4,
-        ss: w / 4 % 2 == 1,
-        ds: w / 8 % 2 == 1,
-        um: w / 16 % 2 == 1,
-        iu: w / 32 % 2 == 1,
-        rv: w / 2048 % 2 == 1,
-        pv: w / 4096 % 2 == 1,
-        wv: w / 8192 % 2 == 1,
-        av: w / 16384 % 2 == 1,
-        iv: w / 32768 % 2 == 1,
+        ss: w / 0o4 % 2 == 1,
+        ds: w / 0o10 % 2 == 1,
+        um: w / 0o20 % 2 == 1,
+        iu: w / 0o40 % 2 == 1,
+        rv: w / 0o4000 % 2 == 1,
+        pv: w / 0o10000 % 2 == 1,
+        wv: w / 0o20000 % 2 == 1,
+        av: w / 0o40000 % 2 == 1,
+        iv: w / 0o100000 % 2 == 1,
     }
 }
 
