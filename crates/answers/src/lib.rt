@@ -2,15 +2,15 @@
 use rules::Answer;
 use rules::Fault;
 use rules::Physical;
-use rules::Shown;
+use rules::Returned;
 ghost use mathlib.Core.Path.{_≡_};
 ghost use Rattle.rules.specs.Answers.{shownAs, faultShown, shown};
 
 // An answer with no data and no physical address.
-fn bare(number: u16) -> Shown
+fn bare(number: u16) -> Returned
     ensures { λ r. ⌜ r ≡ shownAs number 0 Physical.Nowhere ⌝ }
 {
-    Shown {
+    Returned {
         number,
         datum: 0,
         physical: Physical::Nowhere,
@@ -18,7 +18,7 @@ fn bare(number: u16) -> Shown
 }
 
 // "4-8 | AV, RV, WV, PV, IV", "9 | time-out"
-pub fn fault_shown(f: Fault) -> Shown
+pub fn fault_shown(f: Fault) -> Returned
     ensures { λ r. ⌜ r ≡ faultShown f ⌝ }
 {
     match f {
@@ -28,7 +28,7 @@ pub fn fault_shown(f: Fault) -> Shown
         Fault::NotWritable => bare(6),
         Fault::NotPublic => bare(7),
         Fault::NoTarget => bare(9),
-        Fault::Forbidden(word, at) => Shown {
+        Fault::Forbidden(word, at) => Returned {
             number: 8,
             datum: word,
             physical: Physical::At(at),
@@ -37,16 +37,16 @@ pub fn fault_shown(f: Fault) -> Shown
 }
 
 // "Answers 0 and 8 of an access give the physical address ..; sequence accesses, the other calls and the other answers give none."
-pub fn shown(a: Answer) -> Shown
+pub fn shown(a: Answer) -> Returned
     ensures { λ r. ⌜ r ≡ shown a ⌝ }
 {
     match a {
-        Answer::Done(word, at) => Shown {
+        Answer::Done(word, at) => Returned {
             number: 0,
             datum: word,
             physical: Physical::At(at),
         },
-        Answer::Taken(word) => Shown {
+        Answer::Taken(word) => Returned {
             number: 0,
             datum: word,
             physical: Physical::Nowhere,

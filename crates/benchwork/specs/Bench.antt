@@ -8,7 +8,7 @@ use Rattle.rules.specs.declared.Unit.{Unit}
 use Rattle.rules.specs.declared.Access.{Access}
 use Rattle.rules.specs.declared.Call.{Call}
 use Rattle.rules.specs.declared.Physical.{Physical}
-use Rattle.rules.specs.declared.Shown.{Shown}
+use Rattle.rules.specs.declared.Returned.{Returned}
 use Rattle.rules.specs.declared.Reply.{Reply}
 use Rattle.rules.specs.Memory.{Memory, storeWord}
 use Rattle.rules.specs.Status.{packed}
@@ -17,7 +17,7 @@ use Rattle.rules.specs.Calls.{After, callOf}
 use Rattle.linetext.specs.declared.line.Fields.{Fields}
 use Rattle.linetext.specs.declared.line.Line.{Line}
 use Rattle.rowtext.specs.declared.Text.{Text}
-use Rattle.rowtext.specs.declared.Shown as row
+use Rattle.rowtext.specs.declared.Printed.{Printed}
 use Rattle.rowtext.specs.Row.{rowOf, badOf}
 use Rattle.benchwork.specs.declared.Bench.{Bench}
 
@@ -29,13 +29,13 @@ Holds t s = (drop (t .from) (t .bytes) ≡ s) × (t .from ≤ 64)
 unfoldable pub next : ℕ → ℕ
 next n = (n + 1) % 2 ^ 64
 
--- a physical address has 18 bits
-unfoldable pub placeOf : Physical → row.Shown
-placeOf (Physical.At at) = row.Shown.At (at % 0o1000000)
-placeOf Physical.Nowhere = row.Shown.Dash
+-- a physical address as a row prints it: it has 18 bits
+unfoldable pub printedAs : Physical → Printed
+printedAs (Physical.At at) = Printed.At (at % 0o1000000)
+printedAs Physical.Nowhere = Printed.Dash
 
-unfoldable pub shownRow : ℕ → Shown → Ktcs → List ℕ
-shownRow call s k = rowOf call (s .number) (s .datum) (placeOf (s .physical)) (packed k)
+unfoldable pub shownRow : ℕ → Returned → Ktcs → List ℕ
+shownRow call s k = rowOf call (s .number) (s .datum) (printedAs (s .physical)) (packed k)
 
 -- "Each call prints its decimal number, answer, data, physical (six digits each, or `-`) and KTCS."
 unfoldable pub callRow : ℕ → Reply → List ℕ

@@ -13,7 +13,7 @@ use rules::Unit;
 ghost use mathlib.Core.Path.{_≡_};
 ghost use mathlib.Core.List.{[]};
 ghost use Rattle.rules.specs.Calls.{callOf};
-ghost use Rattle.benchwork.specs.Bench.{Holds, next, placeOf, callRow, lineCounted, callCounted, accessIn, lineDone};
+ghost use Rattle.benchwork.specs.Bench.{Holds, next, printedAs, callRow, lineCounted, callCounted, accessIn, lineDone};
 ghost use Rattle.benchwork.specs.Bytes.{freshProgress, stepped, ended};
 
 // The unit, and how many calls and lines there were so far.
@@ -57,12 +57,12 @@ fn nothing_said() -> Text
 }
 
 // The cast loses nothing, since 18 bits are left.
-fn place_of(p: Physical) -> rowtext::Shown
-    ensures { λ r. ⌜ r ≡ placeOf p ⌝ }
+fn printed_as(p: Physical) -> rowtext::Printed
+    ensures { λ r. ⌜ r ≡ printedAs p ⌝ }
 {
     match p {
-        Physical::At(at) => rowtext::Shown::At((at % 0o1000000) as u32),
-        Physical::Nowhere => rowtext::Shown::Dash,
+        Physical::At(at) => rowtext::Printed::At((at % 0o1000000) as u32),
+        Physical::Nowhere => rowtext::Printed::Dash,
     }
 }
 
@@ -78,7 +78,7 @@ fn call_row(call: u64, reply: Reply) -> Text
         call,
         seen.number,
         seen.datum,
-        place_of(place),
+        printed_as(place),
         status::packed(ktcs),
     )
 }

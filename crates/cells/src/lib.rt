@@ -1,13 +1,11 @@
 // The associative cells: which cell holds a page, how a walk fills one, and how they are forgotten, emptied and stored into.
 // Every function takes any counter and any index: past the last cell there is nothing to read, and nothing is stored.
+use rules::Associative;
 use rules::CELLS;
 use rules::Cell;
 use rules::Cells;
-use rules::Core;
 use rules::Found;
-use rules::Maps;
 use rules::Part;
-use rules::Register;
 ghost use mathlib.Core.Path.{_≡_};
 ghost use mathlib.Core.List.{map};
 ghost use Prim.Native.Nat.{_-_};
@@ -15,7 +13,6 @@ ghost use lib.ListN.{length, getD, set, replicate};
 ghost use Rattle.rules.specs.Unit.{emptyCell, emptied};
 ghost use Rattle.rules.specs.Registers.{foundFrom, peeked, cellStored, padStored};
 ghost use Rattle.rules.specs.Maps.{tagIn, stepped, filled, holds, cellForgotten, forgotten};
-ghost use Rattle.rules.specs.Order.{sourceIn, wordFrom};
 
 // "Emptying a cell sets its tag and word to 0."
 const EMPTY: Cell = Cell { tag: 0, word: 0 };
@@ -58,7 +55,7 @@ fn with_cell(mut list: [Cell; CELLS], i: usize, held: Cell) -> [Cell; CELLS]
 }
 
 // The place in the list of the cell that the counter names. A counter below the first cell names the first.
-fn place_of(counter: u16) -> usize
+fn cell_named(counter: u16) -> usize
     ensures { λ r. ⌜ r ≡ counter - 0o10 ⌝ }
 {
     if counter < FIRST {
@@ -80,7 +77,7 @@ pub fn filled(k: Cells, tag: u16, word: u16) -> Cells
     ensures { λ r. ⌜ r ≡ filled k tag word ⌝ }
 {
     let list = k.list;
-    let after = with_cell(list, place_of(k.counter), Cell { tag, word });
+    let after = with_cell(list, cell_named(k.counter), Cell { tag, word });
     let counter = next_counter(list, k.counter);
     Cells {
         list: after,
@@ -172,32 +169,14 @@ pub fn pad_stored(k: Cells, i: usize, p: Part, v: u16) -> Cells
 }
 
 // "KTMR reads the counter times 256"; a scratchpad word reads what its cell holds.
-pub fn peeked(k: Cells, g: Register) -> u16
+pub fn peeked(k: Cells, g: Associative) -> u16
     ensures { λ r. ⌜ r ≡ peeked k g ⌝ }
 {
     match g {
-        Register::Ktmr => k.counter % 256 * 256,
-        Register::Ktcs => 0,
-        Register::Kept(_) => 0,
-        Register::Ktum => 0,
-        Register::Ktem => 0,
-        Register::Pad(i) => {
+        Associative::Ktmr => k.counter % 256 * 256,
+        Associative::Pad(i) => {
             let list = k.list;
             cell_at(list, i).word
         }
-    }
-}
-
-// What a read of a register gives: from the cells for KTMR and the scratchpad words, from the rest of the unit otherwise.
-pub fn word_in(c: Core, maps: Maps, k: Cells, g: Register) -> u16
-    ensures { λ r. ⌜ r ≡ wordFrom k (sourceIn c maps g) ⌝ }
-{
-    match g {
-        Register::Ktmr => peeked(k, Register::Ktmr),
-        Register::Ktcs => registers::register_word(c, maps, Register::Ktcs),
-        Register::Kept(i) => registers::register_word(c, maps, Register::Kept(i)),
-        Register::Ktum => registers::register_word(c, maps, Register::Ktum),
-        Register::Ktem => registers::register_word(c, maps, Register::Ktem),
-        Register::Pad(i) => peeked(k, Register::Pad(i)),
     }
 }

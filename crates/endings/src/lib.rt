@@ -7,7 +7,7 @@ use rules::Fault;
 use rules::Fetch;
 use rules::Job;
 use rules::Outcome;
-use rules::Place;
+use rules::Target;
 ghost use mathlib.Core.Path.{_≡_};
 ghost use Rattle.rules.specs.Program.{done};
 ghost use Rattle.rules.specs.Order.{refused, faulted, outerFault, windowAddr, innerFault, fetched, flagAfter, wordJudged, unpagedTimeOut, sequenced};
@@ -86,27 +86,25 @@ pub fn fetched(j: Job, at: usize, flag: bool, w: u16) -> Outcome
 }
 
 // The flag after a paged fetch: the page's public bit, but a fetch from a KT register never moves it.
-fn flag_after(pl: Place, f: Fetch, e: Entry) -> bool
-    ensures { λ r. ⌜ r ≡ flagAfter pl f e ⌝ }
+fn flag_after(t: Target, f: Fetch, e: Entry) -> bool
+    ensures { λ r. ⌜ r ≡ flagAfter t f e ⌝ }
 {
-    match pl {
-        Place::Memory => steps::public_page(e),
-        Place::Window => f.public,
-        Place::In(_) => f.public,
-        Place::Nowhere => f.public,
+    match t {
+        Target::Memory => steps::public_page(e),
+        Target::In(_) => f.public,
     }
 }
 
 // "11. For a fetch, the word (8)."
-pub fn word_judged(j: Job, at: usize, pl: Place, e: Entry, w: u16) -> Outcome
-    ensures { λ r. ⌜ done r ≡ wordJudged j at pl e w ⌝ }
+pub fn word_judged(j: Job, at: usize, t: Target, e: Entry, w: u16) -> Outcome
+    ensures { λ r. ⌜ done r ≡ wordJudged j at t e w ⌝ }
 {
     let c = j.core;
     if steps::forbidden(c, e, w) {
         return outer_fault(j, Fault::Forbidden(w, at));
     }
     let f = c.fetch;
-    fetched(j, at, flag_after(pl, f, e), w)
+    fetched(j, at, flag_after(t, f, e), w)
 }
 
 // "unpaged: step 4, KTAD, KTDT"

@@ -1,6 +1,7 @@
 // The fetch memory and step 4 of an access: the counts, KTIC, SS and DS (01, "Order in one access"; source 3.3.2.1).
 ghost use mathlib.Core.Path.{_≡_};
 ghost use Rattle.rules.specs.Choice.{pick};
+ghost use Rattle.rules.specs.Unit.{clearFetch};
 ghost use Rattle.rules.specs.Fetched.{isFetch, isDato, oneMore, counted, normal, destinationOnly, sourceBy, destinationBy, sourceSet, destinationSet, statesMarked, instructionNoted, marked, noted, afterFetch};
 use rules::Access;
 use rules::Core;
@@ -184,5 +185,18 @@ pub fn after_fetch(f: Fetch, w: u16, flag: bool) -> Fetch
         datos: 0,
         accesses: 0,
         public: flag,
+    }
+}
+
+// "Fetch memory: .. cleared is all zero."
+pub fn clear_fetch() -> Fetch
+    ensures { λ r. ⌜ r ≡ clearFetch ⌝ }
+{
+    Fetch {
+        newer: 0,
+        older: 0,
+        datos: 0,
+        accesses: 0,
+        public: false,
     }
 }

@@ -5,6 +5,7 @@ use rules::Entry;
 use rules::Found;
 use rules::Looked;
 use rules::Maps;
+use rules::Reads;
 use rules::Walk;
 ghost use mathlib.Core.Path.{_≡_};
 ghost use Prim.Native.Nat.{_<_};
@@ -129,7 +130,7 @@ fn word_walk(m: &[u8], at: usize) -> Walk
     ensures { λ r. ⌜ r ≡ wordWalk (now (m .entry)) at ⌝ }
 {
     if at < m.len() {
-        Walk::Direct(memory::word_at(m, at), at)
+        Walk::Ended(memory::word_at(m, at), Reads::Direct(at))
     } else {
         Walk::Off
     }
@@ -140,7 +141,7 @@ fn followed(m: &[u8], from: usize, to: usize) -> Walk
     ensures { λ r. ⌜ r ≡ followed (now (m .entry)) from to ⌝ }
 {
     if to < m.len() {
-        Walk::Pointed(memory::word_at(m, to), from, to)
+        Walk::Ended(memory::word_at(m, to), Reads::Pointed(from, to))
     } else {
         Walk::Off
     }
@@ -196,8 +197,7 @@ pub fn entry_of(w: Walk) -> Entry
     ensures { λ r. ⌜ r ≡ entryOf w ⌝ }
 {
     match w {
-        Walk::Direct(word, _) => Entry::Mapped(word),
-        Walk::Pointed(word, _, _) => Entry::Mapped(word),
+        Walk::Ended(word, _) => Entry::Mapped(word),
         Walk::Off => Entry::OffMap,
     }
 }
@@ -230,8 +230,7 @@ fn filled_by(k: Cells, tag: u16, w: Walk) -> Cells
     ensures { λ r. ⌜ r ≡ filledBy k tag w ⌝ }
 {
     match w {
-        Walk::Direct(word, _) => cells::filled(k, tag, word),
-        Walk::Pointed(word, _, _) => cells::filled(k, tag, word),
+        Walk::Ended(word, _) => cells::filled(k, tag, word),
         Walk::Off => k,
     }
 }

@@ -6,6 +6,7 @@ use rules::Job;
 use rules::Place;
 use rules::Ran;
 use rules::Ruling;
+use rules::Target;
 ghost use mathlib.Core.Path.{_≡_};
 ghost use Rattle.rules.specs.Program.{run};
 ghost use Rattle.rules.specs.Choice.{pick};
@@ -17,9 +18,8 @@ fn inner_target(m: &[u8], j: Job, at: usize, pl: Place, k: Cells) -> Ran
     ensures { λ r. ⌜ r ≡ run (now (m .entry)) (j .maps) (innerTarget (now (m .entry)) j at pl) k ⌝ }
 {
     match pl {
-        Place::Memory => transfer::transferred(m, j, at, Place::Memory, k),
+        Place::There(t) => transfer::transferred(m, j, at, t, k),
         Place::Window => transfer::ended(endings::inner_fault(j, Fault::NoTarget), k),
-        Place::In(g) => transfer::transferred(m, j, at, Place::In(g), k),
         Place::Nowhere => transfer::ended(endings::inner_fault(j, Fault::NoTarget), k),
     }
 }
@@ -55,15 +55,15 @@ fn windowed(m: &[u8], j: Job, k: Cells) -> Ran
 }
 
 // A target that is there: step 11 for a fetch, the transfer otherwise.
-fn paged_reached(m: &[u8], j: Job, at: usize, e: Entry, pl: Place, k: Cells) -> Ran
-    ensures { λ r. ⌜ r ≡ run (now (m .entry)) (j .maps) (pagedReached (now (m .entry)) j at e pl) k ⌝ }
+fn paged_reached(m: &[u8], j: Job, at: usize, e: Entry, t: Target, k: Cells) -> Ran
+    ensures { λ r. ⌜ r ≡ run (now (m .entry)) (j .maps) (pagedReached (now (m .entry)) j at e t) k ⌝ }
 {
     let q = j.q;
     if fetched::is_fetch(q) {
-        let w = transfer::word_read(m, j, k, at, pl);
-        return transfer::ended(endings::word_judged(j, at, pl, e, w), k);
+        let w = transfer::word_read(m, j, k, at, t);
+        return transfer::ended(endings::word_judged(j, at, t, e, w), k);
     }
-    transfer::transferred(m, j, at, pl, k)
+    transfer::transferred(m, j, at, t, k)
 }
 
 // A paged access to the window goes on, but by fetch it is a time-out.
@@ -82,9 +82,8 @@ fn outer_target(m: &[u8], j: Job, at: usize, e: Entry, pl: Place, k: Cells) -> R
     ensures { λ r. ⌜ r ≡ run (now (m .entry)) (j .maps) (outerTarget (now (m .entry)) j at e pl) k ⌝ }
 {
     match pl {
-        Place::Memory => paged_reached(m, j, at, e, Place::Memory, k),
+        Place::There(t) => paged_reached(m, j, at, e, t, k),
         Place::Window => outer_window(m, j, k),
-        Place::In(g) => paged_reached(m, j, at, e, Place::In(g), k),
         Place::Nowhere => transfer::ended(endings::outer_fault(j, Fault::NoTarget), k),
     }
 }

@@ -1,10 +1,11 @@
 -- What a front panel or a debugger reads of the words of a unit, and where a map page lies.
-use Prim.Native.Nat.{ℕ, _+_, _*_}
+use Prim.Native.Nat.{ℕ, _+_, _-_, _*_}
+use mathlib.Core.Bool.{_&&_}
 use mathlib.Core.List.{List, []}
 use lib.Dec.{eqb, ltb, leb}
 use lib.ListN.{getD, take, drop}
 use Rattle.rules.specs.declared.Unit.{Unit}
-use Rattle.rules.specs.declared.Place.{Place}
+use Rattle.rules.specs.declared.Register.{Register}
 use Rattle.rules.specs.Choice.{pick}
 use Rattle.rules.specs.Memory.{Memory}
 use Rattle.rules.specs.Unit.{cellCount, emptyCell}
@@ -16,16 +17,14 @@ use Rattle.replies.specs.Replies.{told, noUnit, misshapen}
 
 -- Readings -------------------------------------------------------------------------------------------------------------------------
 
--- what is read at a place: a register as an access would read it, or nothing
-unfoldable pub placeRead : Unit → Place → ℕ
-placeRead u Place.Memory = misshapen
-placeRead u Place.Window = misshapen
-placeRead u (Place.In g) = told 0 (wordFrom (u .cells) (sourceIn (u .core) (u .maps) g))
-placeRead u Place.Nowhere = misshapen
+-- a register as an access would read it
+unfoldable pub registerTold : Unit → Register → ℕ
+registerTold u g = told 0 (wordFrom (u .cells) (sourceIn (u .core) (u .maps) g))
 
 -- a register by its number in the table of addresses, KTMR 1 to KTEM 10; 0 is the window, and from 11 on are the scratchpad words
 unfoldable pub registerRead : List ℕ → ℕ → ℕ
-registerRead w n = pick (isUnit w) (pick (ltb n 11) (placeRead (decoded w) (registerOf n)) misshapen) noUnit
+registerRead w n =
+    pick (isUnit w) (pick (ltb 0 n && ltb n 11) (registerTold (decoded w) (registerOf (n - 1))) misshapen) noUnit
 
 -- a number x that is read of the cell at this place: its tag or its word
 unfoldable pub cellRead : List ℕ → ℕ → ℕ → ℕ

@@ -1,30 +1,25 @@
 // What a front panel or a debugger reads of the words of a unit, and where a map page lies. Nothing here changes anything.
 use rules::CELLS;
 use rules::Cell;
-use rules::Place;
+use rules::Register;
 use rules::Unit;
 ghost use mathlib.Core.Path.{_≡_};
 ghost use lib.ListN.{getD};
 ghost use Rattle.rules.specs.Unit.{emptyCell};
 ghost use Rattle.coding.specs.Coding.{decoded};
-ghost use Rattle.panel.specs.Panel.{placeRead, registerRead, cellRead, tagRead, wordRead, counterRead, waitRead, pagePlace};
+ghost use Rattle.panel.specs.Panel.{registerTold, registerRead, cellRead, tagRead, wordRead, counterRead, waitRead, pagePlace};
 
 // The number that says that there is no page.
 const NO_PAGE: usize = 0xffffffffffffffff;
 
-// What is read at a place: a register, or nothing.
-fn place_read(u: Unit, pl: Place) -> u64
-    ensures { λ r. ⌜ r ≡ placeRead u pl ⌝ }
+// A register as an access would read it.
+fn register_told(u: Unit, g: Register) -> u64
+    ensures { λ r. ⌜ r ≡ registerTold u g ⌝ }
 {
     let c = u.core;
     let maps = u.maps;
     let k = u.cells;
-    match pl {
-        Place::Memory => replies::misshapen(),
-        Place::Window => replies::misshapen(),
-        Place::In(g) => replies::told(0, cells::word_in(c, maps, k, g)),
-        Place::Nowhere => replies::misshapen(),
-    }
+    replies::told(0, transfer::word_in(c, maps, k, g))
 }
 
 // A register by its number in the table of addresses: KTMR 1, KTCS 2, and on to KTEM 10.
@@ -32,8 +27,8 @@ pub fn register_read(w: [u16; coding::WORDS], number: usize) -> u64
     ensures { λ r. ⌜ r ≡ registerRead w number ⌝ }
 {
     if coding::is_unit(w) {
-        if number < 11 {
-            return place_read(coding::decoded(w), registers::register_of(number));
+        if (0 < number) & (number < 11) {
+            return register_told(coding::decoded(w), registers::register_of(number - 1));
         }
         return replies::misshapen();
     }

@@ -18,6 +18,7 @@ use Rattle.rules.specs.declared.Due.{Due}
 use Rattle.rules.specs.declared.Entry.{Entry}
 use Rattle.rules.specs.declared.Found.{Found}
 use Rattle.rules.specs.declared.Looked.{Looked}
+use Rattle.rules.specs.declared.Target.{Target}
 use Rattle.rules.specs.declared.Place.{Place}
 use Rattle.rules.specs.declared.Effect.{Effect}
 use Rattle.rules.specs.declared.Outcome.{Outcome}
@@ -80,7 +81,7 @@ module _ (m : Memory) (q : Access) (at : ℕ) (a : Attempt) (k : Cells) where
       (c d : Core) (v w : ℕ) → w ≡ wordAt m (evenOf at) → forbidden c (Entry.Mapped v) w ≡ false
       → d ≡ withFetch c (afterFetch (c .fetch) w (publicBit v))
       → a ≡ record { done = true; outcome = record { answer = Answer.Done w at; core = d; effect = Effect.Keep } }
-      → Sound a m (λ r. readAt m (job q c r) at Place.Memory (wordJudged (job q c r) at Place.Memory (Entry.Mapped v))) k
+      → Sound a m (λ r. readAt m (job q c r) at Target.Memory (wordJudged (job q c r) at Target.Memory (Entry.Mapped v))) k
   unfolding sourceAt readFrom readAt wordJudged fetched flagAfter publicPage outcome pick
   fetch-owed c d v w read allowed after is =
       ended-owed a m _ k _ is quiet-keep (λ r. simp (sym read, allowed, sym after))
@@ -88,33 +89,33 @@ module _ (m : Memory) (q : Access) (at : ℕ) (a : Attempt) (k : Cells) where
   pub read-owed :
       (c : Core) (w : ℕ) → ltb (q .op) 2 ≡ true → w ≡ wordAt m (evenOf at)
       → a ≡ record { done = true; outcome = record { answer = Answer.Done w at; core = c; effect = Effect.Keep } }
-      → Sound a m (λ r. transferred m (job q c r) at Place.Memory) k
+      → Sound a m (λ r. transferred m (job q c r) at Target.Memory) k
   unfolding transferred sourceAt readFrom readAt outcome pick
   read-owed c w reads read is = ended-owed a m _ k _ is quiet-keep (λ r. simp (reads, sym read))
 
   pub store-owed :
       (c : Core) (e : Effect) → ltb (q .op) 2 ≡ false → e ≡ memoryEffect (partOf (q .op) at) at (q .datum)
       → a ≡ record { done = true; outcome = record { answer = Answer.Done 0 at; core = c; effect = e } }
-      → Sound a m (λ r. transferred m (job q c r) at Place.Memory) k
+      → Sound a m (λ r. transferred m (job q c r) at Target.Memory) k
   unfolding transferred storedAt outcome pick
   store-owed c e stores effect is =
       ended-owed a m _ k _ is (rw effect (quiet-memory (partOf (q .op) at) at (q .datum))) (λ r. simp (stores, sym effect))
 
   module _ (c : Core) (v : ℕ) (below : at < length m) (calms : calm c ≡ true) where
-    in-memory : placeOf (length m) at ≡ Place.Memory
+    in-memory : placeOf (length m) at ≡ Place.There Target.Memory
     unfolding placeOf pick
     in-memory = simp (lt-ltb at (length m) below)
 
     pub reached-fetch :
         (d : Core) → isFetch q ≡ true → d ≡ fetchNoted c q
-        → Sound a m (λ r. readAt m (job q d r) at Place.Memory (wordJudged (job q d r) at Place.Memory (Entry.Mapped v))) k
+        → Sound a m (λ r. readAt m (job q d r) at Target.Memory (wordJudged (job q d r) at Target.Memory (Entry.Mapped v))) k
         → Sound a m (λ r. outerTarget m (job q (noted c q) r) at (Entry.Mapped v) (placeOf (length m) at)) k
     unfolding outerTarget pagedReached pick
     reached-fetch d f after s =
         owed-by a m _ _ k (λ r. simp (in-memory, f, noted-fetch c q (is-calm c calms) f, sym after)) s
 
     pub reached-other :
-        (d : Core) → isFetch q ≡ false → d ≡ otherNoted c q → Sound a m (λ r. transferred m (job q d r) at Place.Memory) k
+        (d : Core) → isFetch q ≡ false → d ≡ otherNoted c q → Sound a m (λ r. transferred m (job q d r) at Target.Memory) k
         → Sound a m (λ r. outerTarget m (job q (noted c q) r) at (Entry.Mapped v) (placeOf (length m) at)) k
     unfolding outerTarget pagedReached pick
     reached-other d f after s =

@@ -18,7 +18,7 @@ ghost use mathlib.Core.Bool.{true, false};
 ghost use lib.ListN.{length};
 ghost use Rattle.rules.specs.declared.Cells.{Cells};
 ghost use Rattle.rules.specs.declared.Maps.{Maps};
-ghost use Rattle.rules.specs.declared.Place.{Place};
+ghost use Rattle.rules.specs.declared.Target.{Target};
 ghost use Rattle.rules.specs.Choice.{pick};
 ghost use Rattle.rules.specs.Registers.{placeOf};
 ghost use Rattle.rules.specs.Fetched.{noted, isFetch};
@@ -149,7 +149,7 @@ fn other_noted(c: Core, q: Access) -> Core
 
 // A fetch of a word that is not forbidden; c is the core after step 4, v the page's map word.
 fn fetch_ended(m: &[u8], c: Core, q: Access, v: u16, at: usize) -> Attempt
-    ensures { λ o. ⌜ ((k : Cells) → Sound o (now (m .entry)) (λ r. readAt (now (m .entry)) (record { q = q; core = c; maps = r }) at Place.Memory (wordJudged (record { q = q; core = c; maps = r }) at Place.Memory (Entry.Mapped v))) k) ⌝ }
+    ensures { λ o. ⌜ ((k : Cells) → Sound o (now (m .entry)) (λ r. readAt (now (m .entry)) (record { q = q; core = c; maps = r }) at Target.Memory (wordJudged (record { q = q; core = c; maps = r }) at Target.Memory (Entry.Mapped v))) k) ⌝ }
 {
     let w = memory::word_at(m, memory::even_of(at));
     let e = Entry::Mapped(v);
@@ -165,7 +165,7 @@ fn fetch_ended(m: &[u8], c: Core, q: Access, v: u16, at: usize) -> Attempt
 
 // A read or a store in memory.
 fn other_ended(m: &[u8], c: Core, q: Access, at: usize) -> Attempt
-    ensures { λ o. ⌜ ((k : Cells) → Sound o (now (m .entry)) (λ r. transferred (now (m .entry)) (record { q = q; core = c; maps = r }) at Place.Memory) k) ⌝ }
+    ensures { λ o. ⌜ ((k : Cells) → Sound o (now (m .entry)) (λ r. transferred (now (m .entry)) (record { q = q; core = c; maps = r }) at Target.Memory) k) ⌝ }
 {
     if q.op < 2 {
         return ended(c, memory::word_at(m, memory::even_of(at)), at, Effect::Keep);

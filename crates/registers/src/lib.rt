@@ -1,13 +1,16 @@
 // The register table: which address is which register, and the parts of a word that a store covers (01, "Registers").
 ghost use mathlib.Core.Path.{_≡_};
 ghost use lib.ListN.{getD, set};
-ghost use Rattle.rules.specs.Registers.{foundFrom, registerOf, placeOf, partOf, merged, registerWord};
+ghost use Rattle.rules.specs.Registers.{foundFrom, registerOf, placeIn, placeOf, partOf, merged, operatingWord};
+use rules::Associative;
 use rules::Core;
 use rules::Found;
 use rules::Maps;
+use rules::Operating;
 use rules::Part;
 use rules::Place;
 use rules::Register;
+use rules::Target;
 
 // The registers that only remember, counted from KTIC.
 pub const KTIC: usize = 0;
@@ -36,40 +39,48 @@ pub fn found(list: &[usize], x: usize) -> Found
     Found::Missing
 }
 
-// The register with this number in the table.
-pub fn register_of(n: usize) -> Place
+// The register with this number, counted from KTMR in the order of their addresses.
+pub fn register_of(n: usize) -> Register
     ensures { λ r. ⌜ r ≡ registerOf n ⌝ }
 {
     if n == 0 {
-        return Place::Window;
+        return Register::Associative(Associative::Ktmr);
     }
     if n == 1 {
-        return Place::In(Register::Ktmr);
+        return Register::Operating(Operating::Ktcs);
     }
-    if n == 2 {
-        return Place::In(Register::Ktcs);
+    if n < 8 {
+        return Register::Operating(Operating::Kept(n - 2));
     }
-    if n < 9 {
-        return Place::In(Register::Kept(n - 3));
+    if n == 8 {
+        return Register::Operating(Operating::Ktum);
     }
     if n == 9 {
-        return Place::In(Register::Ktum);
+        return Register::Operating(Operating::Ktem);
     }
-    if n == 10 {
-        return Place::In(Register::Ktem);
-    }
-    Place::In(Register::Pad(n - 11))
+    Register::Associative(Associative::Pad(n - 10))
 }
 
-// Where a physical address lies: "at or beyond L and not a register above" is nowhere.
+// What stands at this place of the table: the window first, and the registers after it.
+fn place_in(n: usize) -> Place
+    ensures { λ r. ⌜ r ≡ placeIn n ⌝ }
+{
+    if n == 0 {
+        Place::Window
+    } else {
+        Place::There(Target::In(register_of(n - 1)))
+    }
+}
+
+// What lies at a physical address: "at or beyond L and not a register above" is nowhere.
 pub fn place_of(len: usize, at: usize) -> Place
     ensures { λ r. ⌜ r ≡ placeOf len at ⌝ }
 {
     if at < len {
-        return Place::Memory;
+        return Place::There(Target::Memory);
     }
     match found(&rules::REGISTERS, memory::even_of(at)) {
-        Found::At(n) => register_of(n),
+        Found::At(n) => place_in(n),
         Found::Missing => Place::Nowhere,
     }
 }
@@ -116,19 +127,17 @@ pub fn kept_stored(kept: [u16; rules::KEPT], i: usize, v: u16) -> [u16; rules::K
     }
 }
 
-// What a read of a register gives that the cells do not take part in.
-pub fn register_word(c: Core, r: Maps, g: Register) -> u16
-    ensures { λ w. ⌜ w ≡ registerWord c r g ⌝ }
+// What a read of a register gives that core or map registers answer for.
+pub fn operating_word(c: Core, r: Maps, g: Operating) -> u16
+    ensures { λ w. ⌜ w ≡ operatingWord c r g ⌝ }
 {
     match g {
-        Register::Ktmr => 0,
-        Register::Ktcs => status::packed(c.ktcs),
-        Register::Kept(i) => {
+        Operating::Ktcs => status::packed(c.ktcs),
+        Operating::Kept(i) => {
             let kept = c.kept;
             kept_word(kept, i)
         }
-        Register::Ktum => r.ktum,
-        Register::Ktem => r.ktem,
-        Register::Pad(_) => 0,
+        Operating::Ktum => r.ktum,
+        Operating::Ktem => r.ktem,
     }
 }

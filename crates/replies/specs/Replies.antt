@@ -1,7 +1,7 @@
 -- A reply as one number: bits 0 to 15 data, 16 to 33 the physical address, 34 set if there is one, 40 to 47 the answer's number.
 use Prim.Native.Nat.{ℕ, _+_, _*_, _%_}
 use Rattle.rules.specs.declared.Physical.{Physical}
-use Rattle.rules.specs.declared.Shown.{Shown}
+use Rattle.rules.specs.declared.Returned.{Returned}
 use Rattle.rules.specs.Answers.{shownAs}
 
 -- a physical address has 18 bits; a larger number, which no answer gives, is taken by its low 18
@@ -9,7 +9,7 @@ unfoldable pub physicalBits : Physical → ℕ
 physicalBits (Physical.At at) = at % 0x40000 * 0x10000 + 0x400000000
 physicalBits Physical.Nowhere = 0
 
-unfoldable pub replyWord : Shown → ℕ
+unfoldable pub replyWord : Returned → ℕ
 replyWord s = s .datum + physicalBits (s .physical) + s .number % 256 * 0x10000000000
 
 -- a reply with no physical address

@@ -1,7 +1,7 @@
 // A reply of the library as one number: its data, its physical address and its answer.
 use rules::Answer;
 use rules::Physical;
-use rules::Shown;
+use rules::Returned;
 ghost use mathlib.Core.Path.{_≡_};
 ghost use Prim.Native.Nat.{_<_};
 ghost use Rattle.rules.specs.Answers.{shown};
@@ -17,7 +17,7 @@ fn physical_bits(p: Physical) -> u64
     }
 }
 
-pub fn reply_word(s: Shown) -> u64
+pub fn reply_word(s: Returned) -> u64
     ensures { λ r. ⌜ r ≡ replyWord s ⌝ }
 {
     let p = s.physical;
@@ -28,7 +28,7 @@ pub fn reply_word(s: Shown) -> u64
 pub fn told(number: u16, datum: u16) -> u64
     ensures { λ r. ⌜ r ≡ told number datum ⌝ }
 {
-    reply_word(Shown {
+    reply_word(Returned {
         number,
         datum,
         physical: Physical::Nowhere,

@@ -6,8 +6,8 @@ use Prim.Native.String.{String, [] as []ˢ, _∷_ as _∷ˢ_}
 use mathlib.Core.Path.{_≡_, refl}
 use mathlib.Core.List.{List, [], _∷_}
 use Rattle.rowtext.specs.Digits.{octals, octal6, decimals, decimal}
-use Rattle.rowtext.specs.Row.{placeOf, rowOf, badOf, headerOf}
-use Rattle.rowtext.specs.declared.Shown.the-variants.{At, Dash}
+use Rattle.rowtext.specs.Row.{addressText, rowOf, badOf, headerOf}
+use Rattle.rowtext.specs.declared.Printed.the-variants.{At, Dash}
 
 -- the bytes of a text
 bytes : String → List ℕ
@@ -20,5 +20,5 @@ output : (headerOf ≡ bytes "CALL\tANS\tDATA\tPHYS\tKTCS\n")
     × (rowOf 3 0 0o123 (At 0o2004) 0o12 ≡ bytes "3\t0\t000123\t002004\t000012\n")
     × (rowOf 4 4 0 Dash 0o40012 ≡ bytes "4\t4\t000000\t-\t040012\n")
     × (badOf 17 ≡ bytes "BAD\t17\n")
-unfolding headerOf rowOf badOf placeOf octal6 octals decimal decimals bytes pick
+unfolding headerOf rowOf badOf addressText octal6 octals decimal decimals bytes pick
 output = (refl, refl, refl, refl, refl, refl)

@@ -2,8 +2,8 @@
 use Prim.Native.Nat.{ℕ}
 use mathlib.Core.List.{List, [], _∷_, _++_}
 use Rattle.rowtext.specs.Digits.{octal6, decimal}
-use Rattle.rowtext.specs.declared.Shown.{Shown}
-use Rattle.rowtext.specs.declared.Shown.the-variants.{At, Dash}
+use Rattle.rowtext.specs.declared.Printed.{Printed}
+use Rattle.rowtext.specs.declared.Printed.the-variants.{At, Dash}
 
 abbrev pub tab : List ℕ
 tab = 9 ∷ []
@@ -12,14 +12,14 @@ abbrev pub newline : List ℕ
 newline = 10 ∷ []
 
 -- "physical (six digits each, or `-`)"
-unfoldable pub placeOf : Shown → List ℕ
-placeOf (At p) = octal6 p
-placeOf Dash = 45 ∷ []
+unfoldable pub addressText : Printed → List ℕ
+addressText (At p) = octal6 p
+addressText Dash = 45 ∷ []
 
 -- "Each call prints its decimal number, answer, data, physical (six digits each, or `-`) and KTCS."
-unfoldable pub rowOf : ℕ → ℕ → ℕ → Shown → ℕ → List ℕ
+unfoldable pub rowOf : ℕ → ℕ → ℕ → Printed → ℕ → List ℕ
 rowOf call answer datum physical ktcs =
-    decimal call ++ tab ++ decimal answer ++ tab ++ octal6 datum ++ tab ++ placeOf physical ++ tab ++ octal6 ktcs ++ newline
+    decimal call ++ tab ++ decimal answer ++ tab ++ octal6 datum ++ tab ++ addressText physical ++ tab ++ octal6 ktcs ++ newline
 
 -- "A bad line prints `BAD`, tab, its decimal line number."
 unfoldable pub badOf : ℕ → List ℕ

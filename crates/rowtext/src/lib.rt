@@ -4,7 +4,7 @@ ghost use mathlib.Core.List.{[], _∷_, _++_};
 ghost use Prim.Native.Nat.{_≤_};
 ghost use lib.ListN.{drop};
 ghost use Rattle.rowtext.specs.Digits.{octal6, decimal};
-ghost use Rattle.rowtext.specs.Row.{placeOf, rowOf, badOf, headerOf};
+ghost use Rattle.rowtext.specs.Row.{addressText, rowOf, badOf, headerOf};
 ghost use Rattle.rowtext.specs.Written.{Room, Ahead};
 
 // A line of the output: the bytes from `from` on.
@@ -13,8 +13,8 @@ pub struct Text {
     pub from: usize,
 }
 
-// A physical address, where the call has one.
-pub enum Shown {
+// A physical address as a row prints it: six digits, or a dash where the call has none.
+pub enum Printed {
     At(u32),
     Dash,
 }
@@ -75,18 +75,18 @@ fn decimal_ahead(t: Text, n: u64, end: u8) -> Text
 }
 
 // "physical (six digits each, or `-`)"
-fn place_ahead(t: Text, physical: Shown, end: u8) -> Text
+fn place_ahead(t: Text, physical: Printed, end: u8) -> Text
     requires { ⌜ Room t 7 ⌝ }
-    ensures { λ r. ⌜ Ahead t r (placeOf physical ++ end ∷ []) 7 ⌝ }
+    ensures { λ r. ⌜ Ahead t r (addressText physical ++ end ∷ []) 7 ⌝ }
 {
     match physical {
-        Shown::At(address) => octal_ahead(t, address, end),
-        Shown::Dash => ahead(ahead(t, end), b'-'),
+        Printed::At(address) => octal_ahead(t, address, end),
+        Printed::Dash => ahead(ahead(t, end), b'-'),
     }
 }
 
 // "Each call prints its decimal number, answer, data, physical (six digits each, or `-`) and KTCS."
-pub fn row(call: u64, answer: u16, datum: u16, physical: Shown, ktcs: u16) -> Text
+pub fn row(call: u64, answer: u16, datum: u16, physical: Printed, ktcs: u16) -> Text
     ensures { λ r. ⌜ (drop (r .from) (r .bytes) ≡ rowOf call answer datum physical ktcs) × (r .from ≤ 64) ⌝ }
 {
     let status = octal_ahead(empty(), ktcs as u32, NEWLINE);

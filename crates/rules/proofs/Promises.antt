@@ -7,7 +7,7 @@ use mathlib.Core.Logic.{_≢_}
 use mathlib.Core.List.{List, [], _∷_, _++_}
 use lib.Dec.{eqb}
 use lib.ListN.{length, getD}
-use Rattle.rules.specs.Types.{Wait, Ktcs, Fetch, Core, Maps, Cell, Cells, Unit, Access, Call, Found, Place, Entry, Looked, Due, Fault, Answer, Physical, Job}
+use Rattle.rules.specs.Types.{Wait, Ktcs, Fetch, Core, Maps, Cell, Cells, Unit, Access, Call, Found, Target, Place, Entry, Looked, Due, Fault, Answer, Physical, Job}
 use Rattle.rules.specs.Choice.{pick}
 use Rattle.rules.specs.Memory.{Memory}
 use Rattle.rules.specs.Unit.{emptyCell, clearFetch}
@@ -58,9 +58,9 @@ innerPhysical m u q = physicalAt (pageNamed (inner m u q .entry)) (windowAddr (j
 abbrev pub outerPlace : Memory → Unit → Access → Place
 outerPlace m u q = placeOf (length m) (outerPhysical m u q)
 
--- the word that a paged fetch reads
-abbrev pub wordFetched : Memory → Unit → Access → ℕ
-wordFetched m u q = wordRead m (job u q) (outer m u q .cells) (outerPhysical m u q) (outerPlace m u q)
+-- the word that a paged fetch reads at its target
+abbrev pub wordFetched : Memory → Unit → Access → Target → ℕ
+wordFetched m u q t = wordRead m (job u q) (outer m u q .cells) (outerPhysical m u q) t
 
 -- Demand 1: the answer, by the tests of 01's steps in their order --------------------------------------------------------
 
@@ -92,15 +92,13 @@ entryTests op watched (Entry.Mapped w) =
 
 -- a place that is no target; the window is none where it is shut: "Unpaged, by fetch, or window on window"
 abbrev pub noTarget : Bool → Place → Bool
-noTarget shut Place.Memory = false
+noTarget shut (Place.There t) = false
 noTarget shut Place.Window = shut
-noTarget shut (Place.In g) = false
 noTarget shut Place.Nowhere = true
 
 abbrev pub isWindow : Place → Bool
-isWindow Place.Memory = false
+isWindow (Place.There t) = false
 isWindow Place.Window = true
-isWindow (Place.In g) = false
 isWindow Place.Nowhere = false
 
 -- "3. Unpaged odd word (3)." and step 10
@@ -109,12 +107,18 @@ unpagedTests m q =
     test (oddWord (q .width) (q .addr)) Answer.UnpagedOdd
     ∷ test (noTarget true (placeOf (length m) (unpagedAt (q .addr)))) (Answer.Fault Fault.NoTarget) ∷ []
 
--- "10. Target at or beyond L and not a register above (9). 11. For a fetch, the word (8)."
+-- "11. For a fetch, the word (8).": the word of a target that is there
+abbrev pub wordTests : Memory → Unit → Access → Place → List Test
+wordTests m u q (Place.There t) =
+    test (isFetch q && forbidden (job u q .core) (outer m u q .entry) (wordFetched m u q t))
+    (Answer.Fault (Fault.Forbidden (wordFetched m u q t) (outerPhysical m u q))) ∷ []
+wordTests m u q Place.Window = []
+wordTests m u q Place.Nowhere = []
+
+-- "10. Target at or beyond L and not a register above (9).", and step 11
 abbrev pub targetTests : Memory → Unit → Access → List Test
 targetTests m u q =
-    test (noTarget (isFetch q) (outerPlace m u q)) (Answer.Fault Fault.NoTarget)
-    ∷ test (isFetch q && forbidden (job u q .core) (outer m u q .entry) (wordFetched m u q))
-    (Answer.Fault (Fault.Forbidden (wordFetched m u q) (outerPhysical m u q))) ∷ []
+    test (noTarget (isFetch q) (outerPlace m u q)) (Answer.Fault Fault.NoTarget) ∷ wordTests m u q (outerPlace m u q)
 
 -- "5. Paged odd word (4)." and on
 abbrev pub outerTests : Memory → Unit → Access → List Test

@@ -1,12 +1,12 @@
 -- What comes back: the number, the data and the physical address of each answer, as 01's table and the sentence below it have them.
 use Prim.Native.Nat.{ℕ}
-use Rattle.rules.specs.Types.{Fault, Answer, Physical, Shown}
+use Rattle.rules.specs.Types.{Fault, Answer, Physical, Returned}
 
-unfoldable pub shownAs : ℕ → ℕ → Physical → Shown
+unfoldable pub shownAs : ℕ → ℕ → Physical → Returned
 shownAs n d at = record { number = n; datum = d; physical = at }
 
 -- "4-8 | AV, RV, WV, PV, IV", "9 | time-out"
-unfoldable pub faultShown : Fault → Shown
+unfoldable pub faultShown : Fault → Returned
 faultShown Fault.OddAddress = shownAs 4 0 Physical.Nowhere
 faultShown Fault.NoMapWord = shownAs 9 0 Physical.Nowhere
 faultShown Fault.NotResident = shownAs 5 0 Physical.Nowhere
@@ -17,7 +17,7 @@ faultShown (Fault.Forbidden w at) = shownAs 8 w (Physical.At at)
 
 -- 01's table, and below it "Answers 0 and 8 of an access give the physical address ..; sequence accesses, the other calls and the other answers give
 -- none."
-unfoldable pub shown : Answer → Shown
+unfoldable pub shown : Answer → Returned
 shown (Answer.Done w at) = shownAs 0 w (Physical.At at)
 shown (Answer.Taken w) = shownAs 0 w Physical.Nowhere
 shown Answer.Misshapen = shownAs 1 0 Physical.Nowhere

@@ -4,7 +4,7 @@ use mathlib.Core.Bool.{Bool, not, _&&_, _||_}
 use mathlib.Core.List.{List, [], _∷_, map}
 use lib.Dec.{eqb, ltb}
 use lib.ListN.{length, getD, set}
-use Rattle.rules.specs.Types.{Maps, Cell, Cells, Found, Walk, Entry, Looked}
+use Rattle.rules.specs.Types.{Maps, Cell, Cells, Found, Reads, Walk, Entry, Looked}
 use Rattle.rules.specs.Choice.{pick}
 use Rattle.rules.specs.Memory.{Memory, wordAt}
 use Rattle.rules.specs.Status.{bitIn}
@@ -70,11 +70,11 @@ unlessOff m at w = pick (ltb at (length m)) w Walk.Off
 
 -- a map word that stands at a place
 unfoldable pub wordWalk : Memory → ℕ → Walk
-wordWalk m at = unlessOff m at (Walk.Direct (wordAt m at) at)
+wordWalk m at = unlessOff m at (Walk.Ended (wordAt m at) (Reads.Direct at))
 
 -- the map word that a pointer leads to, and "never a pointer again"
 unfoldable pub followed : Memory → ℕ → ℕ → Walk
-followed m from at = unlessOff m at (Walk.Pointed (wordAt m at) from at)
+followed m from at = unlessOff m at (Walk.Ended (wordAt m at) (Reads.Pointed from at))
 
 -- "Other user pages: the word at that same place is a pointer, high 7 bits n, low 9 bits m; the map word is at 512·m+256+2n"
 unfoldable pub pointerWalk : Memory → ℕ → Walk
@@ -94,17 +94,14 @@ userWalk m r p =
 unfoldable pub walkOf : Memory → Maps → Bool → ℕ → Walk
 walkOf m r user p = pick user (userWalk m r p) (execWalk m r p)
 
--- "Its map words are those the walk read, pointer included.": their addresses. (A walk that runs off brings no page into use, so that none are asked
--- for.)
-unfoldable pub readsOf : Walk → List ℕ
-readsOf (Walk.Direct w at) = at ∷ []
-readsOf (Walk.Pointed w from at) = from ∷ at ∷ []
-readsOf Walk.Off = []
+-- "Its map words are those the walk read, pointer included.": their addresses
+unfoldable pub readsOf : Reads → List ℕ
+readsOf (Reads.Direct at) = at ∷ []
+readsOf (Reads.Pointed from at) = from ∷ at ∷ []
 
 -- what a walk gives the access
 unfoldable pub entryOf : Walk → Entry
-entryOf (Walk.Direct w at) = Entry.Mapped w
-entryOf (Walk.Pointed w from at) = Entry.Mapped w
+entryOf (Walk.Ended w rs) = Entry.Mapped w
 entryOf Walk.Off = Entry.OffMap
 
 -- "Exec page 0": the only page that has neither map word nor cell
@@ -142,8 +139,7 @@ filled k tag w =
 
 -- "A finished walk fills the cell .. A walk that times out fills nothing."
 unfoldable pub filledBy : Cells → ℕ → Walk → Cells
-filledBy k tag (Walk.Direct w at) = filled k tag w
-filledBy k tag (Walk.Pointed w from at) = filled k tag w
+filledBy k tag (Walk.Ended w rs) = filled k tag w
 filledBy k tag Walk.Off = k
 
 -- a page that no cell holds

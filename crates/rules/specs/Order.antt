@@ -3,12 +3,12 @@ use Prim.Native.Nat.{ℕ}
 use mathlib.Core.Bool.{Bool, true, false}
 use lib.Dec.{ltb}
 use lib.ListN.{length, getD, set}
-use Rattle.rules.specs.Types.{Fetch, Core, Maps, Cells, Access, Register, Place, Part, Entry, Due, Fault, Ruling, Answer, Effect, Outcome, Job}
+use Rattle.rules.specs.Types.{Fetch, Core, Maps, Cells, Access, Operating, Associative, Register, Target, Place, Part, Entry, Due, Fault, Ruling, Answer, Effect, Outcome, Job}
 use Rattle.rules.specs.Choice.{pick}
 use Rattle.rules.specs.Memory.{Memory, wordAt, evenOf}
 use Rattle.rules.specs.Unit.{withKtcs, withKept, withFetch}
 use Rattle.rules.specs.Status.{ktcsStored}
-use Rattle.rules.specs.Registers.{ktad, ktpc, ktps, placeOf, partOf, merged, registerWord, peeked}
+use Rattle.rules.specs.Registers.{ktad, ktpc, ktps, placeOf, partOf, merged, operatingWord, peeked}
 use Rattle.rules.specs.Maps.{unpaged, unpagedAt, pageOf, physicalAt, tagOf}
 use Rattle.rules.specs.Fetched.{isFetch, noted, afterFetch}
 use Rattle.rules.specs.Steps.{wellShaped, dueOf, oddWord, judged, watches, publicPage, forbidden}
@@ -32,63 +32,57 @@ faulted j inner tag f = done (outcome (Answer.Fault f) (violated (j .core) (j .q
 unfoldable pub outerFault : Job → Fault → Prog
 outerFault j f = faulted j false (tagOf (j .core .ktcs .um) (pageOf (j .q .addr))) f
 
--- Reading and storing at a place -----------------------------------------------------------------------------------------
+-- Reading and storing at a target ----------------------------------------------------------------------------------------
 
 -- Where a read gets its word: it is at hand, or the cells have to tell it.
 pub data Source : Type 0 where
   at-hand : ℕ → Source
-  in-cells : Register → Source
+  in-cells : Associative → Source
 
--- a register: KTMR and the scratchpad words from the cells, the others from the rest of the unit
+-- a register: the cells answer for it, or the rest of the unit
 unfoldable pub sourceIn : Core → Maps → Register → Source
-sourceIn c r Register.Ktmr = in-cells Register.Ktmr
-sourceIn c r Register.Ktcs = at-hand (registerWord c r Register.Ktcs)
-sourceIn c r (Register.Kept i) = at-hand (registerWord c r (Register.Kept i))
-sourceIn c r Register.Ktum = at-hand (registerWord c r Register.Ktum)
-sourceIn c r Register.Ktem = at-hand (registerWord c r Register.Ktem)
-sourceIn c r (Register.Pad i) = in-cells (Register.Pad i)
+sourceIn c r (Register.Operating g) = at-hand (operatingWord c r g)
+sourceIn c r (Register.Associative g) = in-cells g
 
--- "Reads give the whole word at the even address." (No read goes to the window or nowhere: step 10 has ruled that out.)
-unfoldable pub sourceAt : Memory → Job → ℕ → Place → Source
-sourceAt m j at Place.Memory = at-hand (wordAt m (evenOf at))
-sourceAt m j at Place.Window = at-hand 0
-sourceAt m j at (Place.In g) = sourceIn (j .core) (j .maps) g
-sourceAt m j at Place.Nowhere = at-hand 0
+-- "Reads give the whole word at the even address."
+unfoldable pub sourceAt : Memory → Job → ℕ → Target → Source
+sourceAt m j at Target.Memory = at-hand (wordAt m (evenOf at))
+sourceAt m j at (Target.In g) = sourceIn (j .core) (j .maps) g
 
 -- the read, and what is done with the word
 unfoldable pub readFrom : Source → (ℕ → Prog) → Prog
 readFrom (at-hand w) f = f w
 readFrom (in-cells g) f = peek g f
 
-unfoldable pub readAt : Memory → Job → ℕ → Place → (ℕ → Prog) → Prog
-readAt m j at pl f = readFrom (sourceAt m j at pl) f
+unfoldable pub readAt : Memory → Job → ℕ → Target → (ℕ → Prog) → Prog
+readAt m j at t f = readFrom (sourceAt m j at t) f
 
 -- the word itself, where the cells are known: contracts and promises speak of it
 unfoldable pub wordFrom : Cells → Source → ℕ
 wordFrom k (at-hand w) = w
 wordFrom k (in-cells g) = peeked k g
 
-unfoldable pub wordRead : Memory → Job → Cells → ℕ → Place → ℕ
-wordRead m j k at pl = wordFrom k (sourceAt m j at pl)
+unfoldable pub wordRead : Memory → Job → Cells → ℕ → Target → ℕ
+wordRead m j k at t = wordFrom k (sourceAt m j at t)
 
--- A store into a register, of the core: KTCS by its own rule, KTIC to KTDT by word and byte.
-unfoldable pub coreStored : Core → Part → ℕ → Register → Core
-coreStored c p v Register.Ktmr = c
-coreStored c p v Register.Ktcs = withKtcs c (ktcsStored (c .ktcs) p v)
-coreStored c p v (Register.Kept i) = withKept c (set (c .kept) i (merged p (getD (c .kept) i 0) v))
-coreStored c p v Register.Ktum = c
-coreStored c p v Register.Ktem = c
-coreStored c p v (Register.Pad i) = c
+-- A store into a register that core or map registers answer for, of the core: KTCS by its own rule, KTIC to KTDT by word and byte.
+unfoldable pub coreStored : Core → Part → ℕ → Operating → Core
+coreStored c p v Operating.Ktcs = withKtcs c (ktcsStored (c .ktcs) p v)
+coreStored c p v (Operating.Kept i) = withKept c (set (c .kept) i (merged p (getD (c .kept) i 0) v))
+coreStored c p v Operating.Ktum = c
+coreStored c p v Operating.Ktem = c
 
--- A store into a register, of the rest: "A store into KTUM or KTEM, byte or word, empties all cells and sets the counter to 10o."
--- "stores into it [KTMR] are accepted and do nothing"
-unfoldable pub registerEffect : Maps → Part → ℕ → Register → Effect
-registerEffect r p v Register.Ktmr = Effect.Keep
-registerEffect r p v Register.Ktcs = Effect.Keep
-registerEffect r p v (Register.Kept i) = Effect.Keep
-registerEffect r p v Register.Ktum = Effect.Reload (record { ktum = merged p (r .ktum) v; ktem = r .ktem })
-registerEffect r p v Register.Ktem = Effect.Reload (record { ktum = r .ktum; ktem = merged p (r .ktem) v })
-registerEffect r p v (Register.Pad i) = Effect.StorePad i p v
+-- and of the rest: "A store into KTUM or KTEM, byte or word, empties all cells and sets the counter to 10o."
+unfoldable pub operatingEffect : Maps → Part → ℕ → Operating → Effect
+operatingEffect r p v Operating.Ktcs = Effect.Keep
+operatingEffect r p v (Operating.Kept i) = Effect.Keep
+operatingEffect r p v Operating.Ktum = Effect.Reload (record { ktum = merged p (r .ktum) v; ktem = r .ktem })
+operatingEffect r p v Operating.Ktem = Effect.Reload (record { ktum = r .ktum; ktem = merged p (r .ktem) v })
+
+-- A store into a register that the cells answer for: "stores into it [KTMR] are accepted and do nothing"; a scratchpad word takes its part.
+unfoldable pub associativeEffect : Part → ℕ → Associative → Effect
+associativeEffect p v Associative.Ktmr = Effect.Keep
+associativeEffect p v (Associative.Pad i) = Effect.StorePad i p v
 
 -- a store into memory: "DATOB writes the low 8 bits of data."
 unfoldable pub memoryEffect : Part → ℕ → ℕ → Effect
@@ -96,19 +90,22 @@ memoryEffect Part.Whole at v = Effect.StoreWord at v
 memoryEffect Part.Low at v = Effect.StoreByte at v
 memoryEffect Part.High at v = Effect.StoreByte at v
 
--- "Then the store." (No store goes to the window or nowhere either.)
-unfoldable pub storedAt : Job → Part → ℕ → Place → Outcome
-storedAt j p at Place.Memory = outcome (Answer.Done 0 at) (j .core) (memoryEffect p at (j .q .datum))
-storedAt j p at Place.Window = outcome (Answer.Done 0 at) (j .core) Effect.Keep
-storedAt j p at (Place.In g) =
-    outcome (Answer.Done 0 at) (coreStored (j .core) p (j .q .datum) g) (registerEffect (j .maps) p (j .q .datum) g)
-storedAt j p at Place.Nowhere = outcome (Answer.Done 0 at) (j .core) Effect.Keep
+-- a store into a register
+unfoldable pub storedIn : Job → Part → ℕ → Register → Outcome
+storedIn j p at (Register.Operating g) =
+    outcome (Answer.Done 0 at) (coreStored (j .core) p (j .q .datum) g) (operatingEffect (j .maps) p (j .q .datum) g)
+storedIn j p at (Register.Associative g) = outcome (Answer.Done 0 at) (j .core) (associativeEffect p (j .q .datum) g)
+
+-- "Then the store."
+unfoldable pub storedAt : Job → Part → ℕ → Target → Outcome
+storedAt j p at Target.Memory = outcome (Answer.Done 0 at) (j .core) (memoryEffect p at (j .q .datum))
+storedAt j p at (Target.In g) = storedIn j p at g
 
 -- a read, by operations 0 and 1, or a store, by 2 and 3: what is done once all steps have passed, except for a fetch
-unfoldable pub transferred : Memory → Job → ℕ → Place → Prog
-transferred m j at pl =
-    pick (ltb (j .q .op) 2) (readAt m j at pl (λ w. done (outcome (Answer.Done w at) (j .core) Effect.Keep)))
-    (done (storedAt j (partOf (j .q .op) at) at pl))
+unfoldable pub transferred : Memory → Job → ℕ → Target → Prog
+transferred m j at t =
+    pick (ltb (j .q .op) 2) (readAt m j at t (λ w. done (outcome (Answer.Done w at) (j .core) Effect.Keep)))
+    (done (storedAt j (partOf (j .q .op) at) at t))
 
 -- A fetch ----------------------------------------------------------------------------------------------------------------
 
@@ -118,23 +115,21 @@ fetched j at flag w =
     done (outcome (Answer.Done w at) (withFetch (j .core) (afterFetch (j .core .fetch) w flag)) Effect.Keep)
 
 -- the flag after a paged fetch: "the flag to the page's public bit"; "never from a KT register"
-unfoldable pub flagAfter : Place → Fetch → Entry → Bool
-flagAfter Place.Memory f e = publicPage e
-flagAfter Place.Window f e = f .public
-flagAfter (Place.In g) f e = f .public
-flagAfter Place.Nowhere f e = f .public
+unfoldable pub flagAfter : Target → Fetch → Entry → Bool
+flagAfter Target.Memory f e = publicPage e
+flagAfter (Target.In g) f e = f .public
 
 -- "11. For a fetch, the word (8)."
-unfoldable pub wordJudged : Job → ℕ → Place → Entry → ℕ → Prog
-wordJudged j at pl e w =
-    pick (forbidden (j .core) e w) (outerFault j (Fault.Forbidden w at)) (fetched j at (flagAfter pl (j .core .fetch) e) w)
+unfoldable pub wordJudged : Job → ℕ → Target → Entry → ℕ → Prog
+wordJudged j at t e w =
+    pick (forbidden (j .core) e w) (outerFault j (Fault.Forbidden w at)) (fetched j at (flagAfter t (j .core .fetch) e) w)
 
 -- The unpaged access -----------------------------------------------------------------------------------------------------
 
 -- a fetch keeps the flag: it moves "only in normal paging"
-unfoldable pub unpagedReached : Memory → Job → ℕ → Place → Prog
-unpagedReached m j at pl =
-    pick (isFetch (j .q)) (readAt m j at pl (fetched j at (j .core .fetch .public))) (transferred m j at pl)
+unfoldable pub unpagedReached : Memory → Job → ℕ → Target → Prog
+unpagedReached m j at t =
+    pick (isFetch (j .q)) (readAt m j at t (fetched j at (j .core .fetch .public))) (transferred m j at t)
 
 -- an unpaged 9
 unfoldable pub unpagedTimeOut : Job → Prog
@@ -142,9 +137,8 @@ unpagedTimeOut j = done (outcome (Answer.Fault Fault.NoTarget) (timedOut (j .cor
 
 -- "10. Target at or beyond L and not a register above (9)."; the window "Unpaged ..: time-out at step 10"
 unfoldable pub unpagedTarget : Memory → Job → ℕ → Place → Prog
-unpagedTarget m j at Place.Memory = unpagedReached m j at Place.Memory
+unpagedTarget m j at (Place.There t) = unpagedReached m j at t
 unpagedTarget m j at Place.Window = unpagedTimeOut j
-unpagedTarget m j at (Place.In g) = unpagedReached m j at (Place.In g)
 unpagedTarget m j at Place.Nowhere = unpagedTimeOut j
 
 -- "3. Unpaged odd word (3).", then step 4
@@ -165,9 +159,8 @@ innerFault j f = faulted j true (tagOf true (pageOf (windowAddr j))) f
 
 -- step 10 again; "window on window: time-out at step 10"
 unfoldable pub innerTarget : Memory → Job → ℕ → Place → Prog
-innerTarget m j at Place.Memory = transferred m j at Place.Memory
+innerTarget m j at (Place.There t) = transferred m j at t
 innerTarget m j at Place.Window = innerFault j Fault.NoTarget
-innerTarget m j at (Place.In g) = transferred m j at (Place.In g)
 innerTarget m j at Place.Nowhere = innerFault j Fault.NoTarget
 
 -- what steps 6 to 8 say of the inner page's entry, and the target of step 10
@@ -185,14 +178,13 @@ windowed m j =
 -- The paged access -------------------------------------------------------------------------------------------------------
 
 -- a target that is there: step 11 for a fetch, the transfer otherwise
-unfoldable pub pagedReached : Memory → Job → ℕ → Entry → Place → Prog
-pagedReached m j at e pl = pick (isFetch (j .q)) (readAt m j at pl (wordJudged j at pl e)) (transferred m j at pl)
+unfoldable pub pagedReached : Memory → Job → ℕ → Entry → Target → Prog
+pagedReached m j at e t = pick (isFetch (j .q)) (readAt m j at t (wordJudged j at t e)) (transferred m j at t)
 
 -- "10. Target at or beyond L and not a register above (9)."; the window goes on, but "by fetch ..: time-out at step 10"
 unfoldable pub outerTarget : Memory → Job → ℕ → Entry → Place → Prog
-outerTarget m j at e Place.Memory = pagedReached m j at e Place.Memory
+outerTarget m j at e (Place.There t) = pagedReached m j at e t
 outerTarget m j at e Place.Window = pick (isFetch (j .q)) (outerFault j Fault.NoTarget) (windowed m j)
-outerTarget m j at e (Place.In g) = pagedReached m j at e (Place.In g)
 outerTarget m j at e Place.Nowhere = outerFault j Fault.NoTarget
 
 -- what steps 6 to 9 say of the entry, and the target of step 10

@@ -2,7 +2,7 @@
 -- Nothing else tells the unit from the unit with no cells of demand 3.
 use Prim.Native.Nat.{ℕ}
 use mathlib.Core.Bool.{Bool}
-use Rattle.rules.specs.Types.{Maps, Cells, Register, Entry, Outcome, Ran}
+use Rattle.rules.specs.Types.{Maps, Cells, Associative, Entry, Outcome, Ran}
 use Rattle.rules.specs.Memory.{Memory}
 use Rattle.rules.specs.Registers.{peeked}
 use Rattle.rules.specs.Maps.{looked, walked}
@@ -11,7 +11,7 @@ use Rattle.rules.specs.Maps.{looked, walked}
 pub data Prog : Type 0 where
   done : Outcome → Prog
   ask : Bool → ℕ → (Entry → Prog) → Prog
-  peek : Register → (ℕ → Prog) → Prog
+  peek : Associative → (ℕ → Prog) → Prog
 
 -- the unit: an entry is looked up in the cells and walked for on a miss
 unfoldable pub run : Memory → Maps → Prog → Cells → Ran

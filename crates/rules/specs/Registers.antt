@@ -4,7 +4,7 @@ use mathlib.Core.Bool.{Bool, true, false}
 use mathlib.Core.List.{List, [], _∷_, _++_}
 use lib.Dec.{eqb, ltb}
 use lib.ListN.{getD, set}
-use Rattle.rules.specs.Types.{Core, Maps, Cell, Cells, Found, Register, Place, Part}
+use Rattle.rules.specs.Types.{Core, Maps, Cell, Cells, Found, Operating, Associative, Register, Target, Place, Part}
 use Rattle.rules.specs.Choice.{pick}
 use Rattle.rules.specs.Memory.{evenOf}
 use Rattle.rules.specs.Unit.{cellCount, keptCount, emptyCell}
@@ -28,37 +28,40 @@ unfoldable pub wordsFrom : ℕ → ℕ → List ℕ
 wordsFrom a zero = []
 wordsFrom a (suc n) = a ∷ wordsFrom (a + 2) n
 
--- the places in the table of addresses from which KTIC to KTDT, and the scratchpad words, are counted
+-- the numbers from which KTIC to KTDT, and the scratchpad words, are counted among the registers
 abbrev pub firstKept : ℕ
-firstKept = 3
+firstKept = 2
 
 abbrev pub firstPad : ℕ
-firstPad = 11
+firstPad = 10
 
--- The table of addresses: KTWN 777572, KTMR 777574, KTCS 777576, KTIC 777600, KTSP 777602, KTPC 777604, KTPS 777606, KTAD 777610,
--- KTDT 777612, KTUM 777614, KTEM 777616, and from 777620 the scratchpad words, one a cell.
+-- The table of addresses: KTWN 777572, then the registers: KTMR 777574, KTCS 777576, KTIC 777600, KTSP 777602, KTPC 777604, KTPS 777606,
+-- KTAD 777610, KTDT 777612, KTUM 777614, KTEM 777616, and from 777620 the scratchpad words, one a cell.
 unfoldable pub registers : List ℕ
-registers = wordsFrom 0o777572 firstPad ++ wordsFrom 0o777620 cellCount
+registers = 0o777572 ∷ wordsFrom 0o777574 firstPad ++ wordsFrom 0o777620 cellCount
 
--- which register has this number in the table
-unfoldable pub registerOf : ℕ → Place
+-- which register has this number, counted from KTMR in the order of their addresses
+unfoldable pub registerOf : ℕ → Register
 registerOf n =
-    pick (eqb n 0) Place.Window
-    (pick (eqb n 1) (Place.In Register.Ktmr)
-    (pick (eqb n 2) (Place.In Register.Ktcs)
-    (pick (ltb n (firstKept + keptCount)) (Place.In (Register.Kept (n - firstKept)))
-    (pick (eqb n 9) (Place.In Register.Ktum)
-    (pick (eqb n 10) (Place.In Register.Ktem)
-    (Place.In (Register.Pad (n - firstPad))))))))
+    pick (eqb n 0) (Register.Associative Associative.Ktmr)
+    (pick (eqb n 1) (Register.Operating Operating.Ktcs)
+    (pick (ltb n (firstKept + keptCount)) (Register.Operating (Operating.Kept (n - firstKept)))
+    (pick (eqb n 8) (Register.Operating Operating.Ktum)
+    (pick (eqb n 9) (Register.Operating Operating.Ktem)
+    (Register.Associative (Associative.Pad (n - firstPad)))))))
 
-unfoldable pub registerFound : Found → Place
-registerFound Found.Missing = Place.Nowhere
-registerFound (Found.At n) = registerOf n
+-- what stands at this place of the table: the window first, and the registers after it
+unfoldable pub placeIn : ℕ → Place
+placeIn n = pick (eqb n 0) Place.Window (Place.There (Target.In (registerOf (n - 1))))
 
--- Where a physical address lies, with memory of this length: step 10's "at or beyond L and not a register above". L is at most 760000o,
+unfoldable pub placeFound : Found → Place
+placeFound Found.Missing = Place.Nowhere
+placeFound (Found.At n) = placeIn n
+
+-- What lies at a physical address, with memory of this length: step 10's "at or beyond L and not a register above". L is at most 760000o,
 -- so no register lies in memory.
 unfoldable pub placeOf : ℕ → ℕ → Place
-placeOf len at = pick (ltb at len) Place.Memory (registerFound (foundFrom 0 registers (evenOf at)))
+placeOf len at = pick (ltb at len) (Place.There Target.Memory) (placeFound (foundFrom 0 registers (evenOf at)))
 
 -- "DATOB writes the low 8 bits of data", into the byte that its address names; every other store covers the word
 unfoldable pub partOf : ℕ → ℕ → Part
@@ -89,24 +92,18 @@ ktad = 4
 abbrev pub ktdt : ℕ
 ktdt = 5
 
--- What a read of a register gives that the cells do not take part in. (KTMR and the scratchpad words are read by `peeked`.)
-unfoldable pub registerWord : Core → Maps → Register → ℕ
-registerWord c r Register.Ktmr = 0
-registerWord c r Register.Ktcs = packed (c .ktcs)
-registerWord c r (Register.Kept i) = getD (c .kept) i 0
-registerWord c r Register.Ktum = r .ktum
-registerWord c r Register.Ktem = r .ktem
-registerWord c r (Register.Pad i) = 0
+-- what a read of a register gives that core or map registers answer for
+unfoldable pub operatingWord : Core → Maps → Operating → ℕ
+operatingWord c r Operating.Ktcs = packed (c .ktcs)
+operatingWord c r (Operating.Kept i) = getD (c .kept) i 0
+operatingWord c r Operating.Ktum = r .ktum
+operatingWord c r Operating.Ktem = r .ktem
 
--- "KTMR reads the counter times 256", by 16 bits whatever the counter is; a scratchpad word reads what its cell holds, which in an empty one is 0. (The
--- others are read by `registerWord`.)
-unfoldable pub peeked : Cells → Register → ℕ
-peeked k Register.Ktmr = k .counter % 256 * 256
-peeked k Register.Ktcs = 0
-peeked k (Register.Kept i) = 0
-peeked k Register.Ktum = 0
-peeked k Register.Ktem = 0
-peeked k (Register.Pad i) = getD (k .list) i emptyCell .word
+-- what a read of a register gives that the cells answer for: "KTMR reads the counter times 256", by 16 bits whatever the counter is; a scratchpad
+-- word reads what its cell holds, which in an empty one is 0
+unfoldable pub peeked : Cells → Associative → ℕ
+peeked k Associative.Ktmr = k .counter % 256 * 256
+peeked k (Associative.Pad i) = getD (k .list) i emptyCell .word
 
 -- one cell under a store: it "leaves the tag, and does nothing in an empty cell (H)"
 unfoldable pub cellStored : Cell → Part → ℕ → Cell

@@ -145,12 +145,9 @@ noneInUse t = unused
 
 -- "A page comes into use when an access gets its entry." One that is in use stays as it came.
 unfoldable pub usedBy : Walk → Use → Use
-usedBy (Walk.Direct w at) unused = inUse (readsOf (Walk.Direct w at))
-usedBy (Walk.Direct w at) (inUse rs) = inUse rs
-usedBy (Walk.Direct w at) outdated = outdated
-usedBy (Walk.Pointed w from at) unused = inUse (readsOf (Walk.Pointed w from at))
-usedBy (Walk.Pointed w from at) (inUse rs) = inUse rs
-usedBy (Walk.Pointed w from at) outdated = outdated
+usedBy (Walk.Ended w rs) unused = inUse (readsOf rs)
+usedBy (Walk.Ended w rs) (inUse ws) = inUse ws
+usedBy (Walk.Ended w rs) outdated = outdated
 usedBy Walk.Off u = u
 
 -- the history with another word about one page

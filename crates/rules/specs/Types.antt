@@ -10,9 +10,13 @@ pub use Rattle.rules.specs.declared.Unit.{Unit}
 pub use Rattle.rules.specs.declared.Access.{Access}
 pub use Rattle.rules.specs.declared.Call.{Call}
 pub use Rattle.rules.specs.declared.Found.{Found}
+pub use Rattle.rules.specs.declared.Operating.{Operating}
+pub use Rattle.rules.specs.declared.Associative.{Associative}
 pub use Rattle.rules.specs.declared.Register.{Register}
+pub use Rattle.rules.specs.declared.Target.{Target}
 pub use Rattle.rules.specs.declared.Place.{Place}
 pub use Rattle.rules.specs.declared.Part.{Part}
+pub use Rattle.rules.specs.declared.Reads.{Reads}
 pub use Rattle.rules.specs.declared.Walk.{Walk}
 pub use Rattle.rules.specs.declared.Entry.{Entry}
 pub use Rattle.rules.specs.declared.Kind.{Kind}
@@ -21,7 +25,7 @@ pub use Rattle.rules.specs.declared.Fault.{Fault}
 pub use Rattle.rules.specs.declared.Ruling.{Ruling}
 pub use Rattle.rules.specs.declared.Answer.{Answer}
 pub use Rattle.rules.specs.declared.Physical.{Physical}
-pub use Rattle.rules.specs.declared.Shown.{Shown}
+pub use Rattle.rules.specs.declared.Returned.{Returned}
 pub use Rattle.rules.specs.declared.Effect.{Effect}
 pub use Rattle.rules.specs.declared.Outcome.{Outcome}
 pub use Rattle.rules.specs.declared.Job.{Job}

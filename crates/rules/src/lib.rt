@@ -138,23 +138,38 @@ pub const REGISTERS: [usize; 19] = [
     0o777636,
 ];
 
-// A register that can be read and stored into. KTWN is none: what goes there goes on through the window.
-pub enum Register {
-    Ktmr,
+// A register that core or map registers answer for: KTCS and those at 777600 to 777616 octal.
+pub enum Operating {
     Ktcs,
     // One of KTIC, KTSP, KTPC, KTPS, KTAD and KTDT, counted from KTIC.
     Kept(usize),
     Ktum,
     Ktem,
+}
+
+// A register that the cells answer for.
+pub enum Associative {
+    Ktmr,
     // A scratchpad word, counted from 777620 octal.
     Pad(usize),
 }
 
-// Where a physical address lies.
-pub enum Place {
+// A register that can be read and stored into. KTWN is none: what goes there goes on through the window.
+pub enum Register {
+    Operating(Operating),
+    Associative(Associative),
+}
+
+// What can be read and stored into.
+pub enum Target {
     Memory,
-    Window,
     In(Register),
+}
+
+// What step 10 finds at a physical address.
+pub enum Place {
+    There(Target),
+    Window,
     Nowhere,
 }
 
@@ -167,12 +182,18 @@ pub enum Part {
 
 // From address to entry ------------------------------------------------------------------------------------------------
 
-// What a walk of the maps comes to; one that ends, with the addresses of the words that it read.
+// Where the words stand that a walk read.
+pub enum Reads {
+    // The map word.
+    Direct(usize),
+    // The pointer, and the map word that it leads to.
+    Pointed(usize, usize),
+}
+
+// What a walk of the maps comes to.
 pub enum Walk {
-    // The map word and where it stands.
-    Direct(u16, usize),
-    // The map word, where the pointer stands, and where the map word stands.
-    Pointed(u16, usize, usize),
+    // The map word, and where the words stand that were read for it.
+    Ended(u16, Reads),
     // A map word or pointer at or beyond the end of memory.
     Off,
 }
@@ -265,8 +286,8 @@ pub enum Physical {
     Nowhere,
 }
 
-// An answer as the host sees it.
-pub struct Shown {
+// What comes back of an answer: its number, its data and its physical address.
+pub struct Returned {
     pub number: u16,
     pub datum: u16,
     pub physical: Physical,

@@ -69,7 +69,7 @@ pub fn user_started(c: Core) -> Core
 {
     let ktcs = status::with_modes(c.ktcs, 2, true, c.ktcs.iu);
     let kept = c.kept;
-    let fetch = violations::clear_fetch();
+    let fetch = fetched::clear_fetch();
     Core {
         ktcs,
         kept,
@@ -163,7 +163,7 @@ pub fn init_core(c: Core) -> Core
 {
     let ktcs = status::clear_ktcs();
     let kept = c.kept;
-    let fetch = violations::clear_fetch();
+    let fetch = fetched::clear_fetch();
     Core {
         ktcs,
         kept,

@@ -167,7 +167,7 @@ fn zero() -> Unit
         ktcs,
         kept: [0; KEPT],
         wait: Wait::Nothing,
-        fetch: violations::clear_fetch(),
+        fetch: fetched::clear_fetch(),
     };
     let empty = Cell { tag: 0, word: 0 };
     let cells = Cells {

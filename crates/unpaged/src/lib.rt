@@ -7,20 +7,21 @@ use rules::Job;
 use rules::Maps;
 use rules::Place;
 use rules::Ran;
+use rules::Target;
 ghost use mathlib.Core.Path.{_≡_};
 ghost use Rattle.rules.specs.Program.{run};
 ghost use Rattle.rules.specs.Order.{unpagedReached, unpagedTarget, unpagedFrom};
 
 // A target that is there. A fetch keeps the public flag, which moves "only in normal paging".
-fn unpaged_reached(m: &[u8], j: Job, at: usize, pl: Place, k: Cells) -> Ran
-    ensures { λ r. ⌜ r ≡ run (now (m .entry)) (j .maps) (unpagedReached (now (m .entry)) j at pl) k ⌝ }
+fn unpaged_reached(m: &[u8], j: Job, at: usize, t: Target, k: Cells) -> Ran
+    ensures { λ r. ⌜ r ≡ run (now (m .entry)) (j .maps) (unpagedReached (now (m .entry)) j at t) k ⌝ }
 {
     let q = j.q;
     if fetched::is_fetch(q) {
-        let w = transfer::word_read(m, j, k, at, pl);
+        let w = transfer::word_read(m, j, k, at, t);
         return transfer::ended(endings::fetched(j, at, j.core.fetch.public, w), k);
     }
-    transfer::transferred(m, j, at, pl, k)
+    transfer::transferred(m, j, at, t, k)
 }
 
 // "10. Target at or beyond L and not a register above (9)."; the window unpaged is a time-out.
@@ -28,9 +29,8 @@ fn unpaged_target(m: &[u8], j: Job, at: usize, pl: Place, k: Cells) -> Ran
     ensures { λ r. ⌜ r ≡ run (now (m .entry)) (j .maps) (unpagedTarget (now (m .entry)) j at pl) k ⌝ }
 {
     match pl {
-        Place::Memory => unpaged_reached(m, j, at, Place::Memory, k),
+        Place::There(t) => unpaged_reached(m, j, at, t, k),
         Place::Window => transfer::ended(endings::unpaged_time_out(j), k),
-        Place::In(g) => unpaged_reached(m, j, at, Place::In(g), k),
         Place::Nowhere => transfer::ended(endings::unpaged_time_out(j), k),
     }
 }

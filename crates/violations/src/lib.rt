@@ -2,35 +2,20 @@
 ghost use mathlib.Core.Path.{_≡_};
 ghost use lib.Dec.{eqb};
 ghost use Rattle.rules.specs.Choice.{pick};
-ghost use Rattle.rules.specs.Unit.{clearFetch};
 ghost use Rattle.rules.specs.Sequences.{serviceAwaited, flagged, startEnded, dataLines, faultData, addressKept, linesKept, violated, timedOut};
 use rules::Access;
 use rules::Core;
 use rules::Fault;
-use rules::Fetch;
 use rules::KEPT;
 use rules::Ktcs;
 use rules::Wait;
-
-// "Fetch memory: .. cleared is all zero."
-pub fn clear_fetch() -> Fetch
-    ensures { λ r. ⌜ r ≡ clearFetch ⌝ }
-{
-    Fetch {
-        newer: 0,
-        older: 0,
-        datos: 0,
-        accesses: 0,
-        public: false,
-    }
-}
 
 // What a violation, an interrupt and a trap share: "IU takes UM; UM clears; .. fetch memory clears; the unit waits for two SERVICE DATOs."
 pub fn service_awaited(s: Ktcs, kept: [u16; KEPT]) -> Core
     ensures { λ r. ⌜ r ≡ serviceAwaited s kept ⌝ }
 {
     let ktcs = status::with_modes(s, s.fcn, false, s.um);
-    let fetch = clear_fetch();
+    let fetch = fetched::clear_fetch();
     Core {
         ktcs,
         kept,

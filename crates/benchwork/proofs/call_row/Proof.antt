@@ -8,8 +8,8 @@ use Rattle.benchwork.proofs.call_row.Tie as tie
 shown-requires : tie.Need-shown-requires
 shown-requires c κs = search needs
 
-place-of-requires : tie.Need-place-of-requires
-place-of-requires c κs = search needs
+printed-as-requires : tie.Need-printed-as-requires
+printed-as-requires c κs = search needs
 
 packed-requires : tie.Need-packed-requires
 packed-requires c κs = search needs
@@ -19,8 +19,8 @@ row-requires c κs = search needs
 
 returns : tie.Need-returns
 unfolding callRow shownRow
-returns c = (c .row .ensures .0 ∙ simp (c .before .packed .ensures, c .before .before .place-of .ensures, c .before .before .before .shown .ensures), c .row .ensures .1)
+returns c = (c .row .ensures .0 ∙ simp (c .before .packed .ensures, c .before .before .printed-as .ensures, c .before .before .before .shown .ensures), c .row .ensures .1)
 
 pub call-row-spec : {M : Type 1} → statement M
 call-row-spec =
-    tie.close (tie.spec shown-requires place-of-requires packed-requires row-requires returns)
+    tie.close (tie.spec shown-requires printed-as-requires packed-requires row-requires returns)

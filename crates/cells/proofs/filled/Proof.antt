@@ -4,8 +4,8 @@ use Rattle.rules.specs.Maps.{filled}
 use Rattle.cells.proofs.filled.Statement.{statement}
 use Rattle.cells.proofs.filled.Tie as tie
 
-place-of-requires : tie.Need-place-of-requires
-place-of-requires c κs = search needs
+cell-named-requires : tie.Need-cell-named-requires
+cell-named-requires c κs = search needs
 
 with-cell-requires : tie.Need-with-cell-requires
 with-cell-requires c κs = search needs
@@ -15,7 +15,7 @@ next-counter-requires c κs = search needs
 
 returns : tie.Need-returns
 unfolding filled
-returns c = rw (c .next-counter .ensures, c .before .with-cell .ensures, c .before .before .place-of .ensures)
+returns c = rw (c .next-counter .ensures, c .before .with-cell .ensures, c .before .before .cell-named .ensures)
 
 pub filled-spec : {M : Type 1} → statement M
-filled-spec = tie.close (tie.spec place-of-requires with-cell-requires next-counter-requires returns)
+filled-spec = tie.close (tie.spec cell-named-requires with-cell-requires next-counter-requires returns)

@@ -7,9 +7,6 @@ use Rattle.maps.proofs.entry_of.Tie as tie
 enum-known-w : tie.Need-enum-known-w
 enum-known-w c = search needs
 
-enum-known-w-2 : tie.Need-enum-known-w-2
-enum-known-w-2 c = search needs
-
 enum-told : tie.Need-enum-told
 enum-told c = search needs
 
@@ -21,10 +18,5 @@ returns-2 : tie.Need-returns-2
 unfolding entryOf
 returns-2 c = cc
 
-returns-3 : tie.Need-returns-3
-unfolding entryOf
-returns-3 c = cc
-
 pub entry-of-spec : {M : Type 1} → statement M
-entry-of-spec =
-    tie.close (tie.spec enum-known-w enum-known-w-2 enum-told returns returns-2 returns-3)
+entry-of-spec = tie.close (tie.spec enum-known-w enum-told returns returns-2)

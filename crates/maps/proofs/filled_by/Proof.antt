@@ -11,12 +11,6 @@ enum-known-w c = search needs
 filled-requires : tie.Need-filled-requires
 filled-requires c κs = search needs
 
-enum-known-w-2 : tie.Need-enum-known-w-2
-enum-known-w-2 c = search needs
-
-filled-requires-2 : tie.Need-filled-requires-2
-filled-requires-2 c κs = search needs
-
 enum-told : tie.Need-enum-told
 enum-told c = search needs
 
@@ -26,21 +20,7 @@ returns c = simp (sym (c .filled .ensures), c .before .before .w .given .1)
 
 returns-2 : tie.Need-returns-2
 unfolding filledBy
-returns-2 c = simp (sym (c .filled2 .ensures), c .before .before .w2 .given .1)
-
-returns-3 : tie.Need-returns-3
-unfolding filledBy
-returns-3 c = simp (c .enum-told .given .1)
+returns-2 c = simp (c .enum-told .given .1)
 
 pub filled-by-spec : {M : Type 1} → statement M
-filled-by-spec =
-    tie.close
-    (tie.spec
-    enum-known-w
-    filled-requires
-    enum-known-w-2
-    filled-requires-2
-    enum-told
-    returns
-    returns-2
-    returns-3)
+filled-by-spec = tie.close (tie.spec enum-known-w filled-requires enum-told returns returns-2)

@@ -6,14 +6,14 @@ use borrow.Author.Needs.{needs}
 use Rattle.paged.proofs.inner_target.Statement.{statement}
 use Rattle.paged.proofs.inner_target.Tie as tie
 
-enum-told : tie.Need-enum-told
-enum-told c = search needs
+enum-known-pl : tie.Need-enum-known-pl
+enum-known-pl c = search needs
 
 transferred-requires : tie.Need-transferred-requires
 transferred-requires c κs = search needs
 
-enum-told-2 : tie.Need-enum-told-2
-enum-told-2 c = search needs
+enum-told : tie.Need-enum-told
+enum-told c = search needs
 
 inner-fault-requires : tie.Need-inner-fault-requires
 inner-fault-requires c κs = search needs
@@ -21,14 +21,8 @@ inner-fault-requires c κs = search needs
 ended-requires : tie.Need-ended-requires
 ended-requires c κs = search needs
 
-enum-known-pl : tie.Need-enum-known-pl
-enum-known-pl c = search needs
-
-transferred-requires-2 : tie.Need-transferred-requires-2
-transferred-requires-2 c κs = search needs
-
-enum-told-3 : tie.Need-enum-told-3
-enum-told-3 c = search needs
+enum-told-2 : tie.Need-enum-told-2
+enum-told-2 c = search needs
 
 inner-fault-requires-2 : tie.Need-inner-fault-requires-2
 inner-fault-requires-2 c κs = search needs
@@ -38,35 +32,15 @@ ended-requires-2 c κs = search needs
 
 returns : tie.Need-returns
 unfolding innerTarget
-returns c = simp (sym (c .transferred .ensures), c .before .enum-told .given .1)
+returns c = simp (sym (c .transferred .ensures), c .before .before .pl .given .1)
 
 returns-2 : tie.Need-returns-2
 unfolding innerTarget
-returns-2 c = simp (run-done, c .ended .ensures, sym (c .before .inner-fault .ensures), c .before .before .enum-told2 .given .1)
+returns-2 c = simp (run-done, c .ended .ensures, sym (c .before .inner-fault .ensures), c .before .before .enum-told .given .1)
 
 returns-3 : tie.Need-returns-3
 unfolding innerTarget
-returns-3 c = simp (sym (c .transferred2 .ensures), c .before .before .pl .given .1)
-
-returns-4 : tie.Need-returns-4
-unfolding innerTarget
-returns-4 c = simp (run-done, c .ended2 .ensures, sym (c .before .inner-fault2 .ensures), c .before .before .enum-told3 .given .1)
+returns-3 c = simp (run-done, c .ended2 .ensures, sym (c .before .inner-fault2 .ensures), c .before .before .enum-told2 .given .1)
 
 pub inner-target-spec : {M : Type 1} → statement M
-inner-target-spec =
-    tie.close
-    (tie.spec
-    enum-told
-    transferred-requires
-    enum-told-2
-    inner-fault-requires
-    ended-requires
-    enum-known-pl
-    transferred-requires-2
-    enum-told-3
-    inner-fault-requires-2
-    ended-requires-2
-    returns
-    returns-2
-    returns-3
-    returns-4)
+inner-target-spec = tie.close (tie.spec enum-known-pl transferred-requires enum-told inner-fault-requires ended-requires enum-told-2 inner-fault-requires-2 ended-requires-2 returns returns-2 returns-3)

@@ -4,15 +4,15 @@ use mathlib.Core.Bool.{Bool}
 use mathlib.Core.Path.{_≡_, refl}
 use native.Mathlib.Omega.{arith}
 use lib.Dec.{ltb}
-use Rattle.rules.specs.Types.{Maps, Cells, Unit, Access, Place, Found, Walk, Entry, Looked, Fault, Ruling, Physical, Job, Ran}
+use Rattle.rules.specs.Types.{Maps, Cells, Unit, Access, Register, Target, Found, Walk, Entry, Looked, Fault, Ruling, Physical, Job, Ran}
 use Rattle.rules.specs.Memory.{Memory}
 use Rattle.rules.specs.Maps.{unpagedAt, physicalAt, low9, execZero, execZeroEntry, walkOf, entryOf, tagOf, cellOf, missed, soughtIn, looked}
-use Rattle.rules.specs.Order.{outcome, storedAt}
+use Rattle.rules.specs.Order.{outcome, storedIn, storedAt}
 use Rattle.rules.specs.Calls.{settled, callOf}
 use Rattle.rules.specs.Answers.{shownAs, faultShown, shown}
 use Rattle.rules.proofs.Laws.Choices.{picked}
 use Rattle.rules.proofs.Promises.{EighteenBits}
-use Rattle.rules.proofs.Statements.Ways.{Keys, off-map, not-resident, not-writable, not-public, granted, exec-zero, There, memory, register, Transfer, read, store}
+use Rattle.rules.proofs.Statements.Ways.{Keys, off-map, not-resident, not-writable, not-public, granted, exec-zero, Transfer, read, store}
 use Rattle.rules.proofs.Statements.Ways.{Granted, InnerGranted}
 use Rattle.rules.proofs.Statements.Ways.{AtFault, odd, keys-refuse, nowhere, window-by-fetch, forbidden-word, inner-odd, inner-keys-refuse, inner-nowhere, window-on-window}
 use Rattle.rules.proofs.Statements.Ways.{Way, misshapen, late, status-stored, program-counter-stored, first-read, second-read, unpaged-odd, unpaged-nowhere, unpaged-window, unpaged-fetch, unpaged-transfer, violation, fetch, transfer, inner-transfer}
@@ -22,8 +22,7 @@ use Rattle.rules.proofs.Demand1.Why.{way}
 module _ (m : Memory) (r : Maps) (user : Bool) (p : ℕ) (k : Cells) (page : ℕ) where
   missed-page : (w : Walk) → missed k (tagOf user p) w .entry ≡ Entry.ExecZero page → page < 512
   unfolding missed entryOf
-  missed-page (Walk.Direct w at) e = absurd (let z : _≡_ {A = ℕ} 0 1 = cc in omega arith)
-  missed-page (Walk.Pointed w from at) e = absurd (let z : _≡_ {A = ℕ} 0 1 = cc in omega arith)
+  missed-page (Walk.Ended w rs) e = absurd (let z : _≡_ {A = ℕ} 0 1 = cc in omega arith)
   missed-page Walk.Off e = absurd (let z : _≡_ {A = ℕ} 0 1 = cc in omega arith)
 
   sought-page : (x : Found) → soughtIn m r user p k x .entry ≡ Entry.ExecZero page → page < 512
@@ -76,12 +75,13 @@ keys-bits (not-writable r l) h = none h
 keys-bits (not-public r l x) h = none h
 
 transfer-bits :
-    {m : Memory} {j : Job} {k : Cells} {to at : ℕ} {pl : Place} {d : Ran} → to < 0o1000000 → There pl → Transfer m j k to pl d
+    {m : Memory} {j : Job} {k : Cells} {to at : ℕ} {t : Target} {d : Ran} → to < 0o1000000 → Transfer m j k to t d
     → shown (d .outcome .answer) .physical ≡ Physical.At at → at < 0o1000000
-unfolding outcome storedAt shown shownAs
-transfer-bits b t (read e) h = given b h
-transfer-bits b memory (store e) h = given b h
-transfer-bits b register (store e) h = given b h
+unfolding outcome storedIn storedAt shown shownAs
+transfer-bits b (read e) h = given b h
+transfer-bits {t = Target.Memory} b (store e) h = given b h
+transfer-bits {t = Target.In (Register.Operating g)} b (store e) h = given b h
+transfer-bits {t = Target.In (Register.Associative g)} b (store e) h = given b h
 
 module _ {m : Memory} {u : Unit} {q : Access} where
   fault-bits :
@@ -111,11 +111,11 @@ module _ {m : Memory} {u : Unit} {q : Access} where
   way-bits b (unpaged-nowhere s e) h = none h
   way-bits b (unpaged-window s e) h = none h
   way-bits b (unpaged-fetch s t r) h = given (unpaged-bits (q .addr) b) h
-  way-bits b (unpaged-transfer s e t) h = transfer-bits (unpaged-bits (q .addr) b) (s .there) t h
+  way-bits b (unpaged-transfer s e t) h = transfer-bits (unpaged-bits (q .addr) b) t h
   way-bits b (violation r) h = fault-bits r h
   way-bits b (fetch s t r e) h = given (outer-bits (s .steps) (q .addr)) h
-  way-bits b (transfer s e t) h = transfer-bits (outer-bits (s .steps) (q .addr)) (s .there) t h
-  way-bits b (inner-transfer s t) h = transfer-bits (inner-bits (s .steps) _) (s .there) t h
+  way-bits b (transfer s e t) h = transfer-bits (outer-bits (s .steps) (q .addr)) t h
+  way-bits b (inner-transfer s t) h = transfer-bits (inner-bits (s .steps) _) t h
 
 pub eighteen-bits : EighteenBits
 unfolding callOf settled

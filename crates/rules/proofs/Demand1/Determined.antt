@@ -3,7 +3,7 @@ use Prim.Native.Nat.{ℕ}
 use mathlib.Core.Bool.{Bool, false}
 use mathlib.Core.Path.{_≡_, refl, _∙_}
 use lib.ListN.{length}
-use Rattle.rules.specs.Types.{Cells, Unit, Access, Call, Place, Entry, Fault, Ruling, Job, Ran}
+use Rattle.rules.specs.Types.{Cells, Unit, Access, Call, Target, Entry, Fault, Ruling, Job, Ran}
 use Rattle.rules.specs.Choice.{pick}
 use Rattle.rules.specs.Memory.{Memory}
 use Rattle.rules.specs.Registers.{placeOf}
@@ -14,7 +14,7 @@ use Rattle.rules.specs.Order.{outcome, refused, faulted, outerFault, tra
 use Rattle.rules.specs.Calls.{interruptOf, trapOf, initOf, called}
 use Rattle.rules.proofs.Laws.RunLaws.{run-readAt}
 use Rattle.rules.proofs.Promises.{job, outer, inner}
-use Rattle.rules.proofs.Statements.Ways.{outerAt, innerAt, Keys, off-map, not-resident, not-writable, not-public, granted, exec-zero, There, memory, register, faultEnding, Transfer, read, store}
+use Rattle.rules.proofs.Statements.Ways.{outerAt, innerAt, Keys, off-map, not-resident, not-writable, not-public, granted, exec-zero, faultEnding, Transfer, read, store}
 use Rattle.rules.proofs.Statements.Ways.{Begun, Unpaged, UnpagedThere, Paged, Asked, Granted, PagedThere, Windowed, InnerAsked, InnerGranted, InnerThere}
 use Rattle.rules.proofs.Statements.Ways.{AtFault, odd, keys-refuse, nowhere, window-by-fetch, forbidden-word, inner-odd, inner-keys-refuse, inner-nowhere, window-on-window}
 use Rattle.rules.proofs.Statements.Ways.{Way, misshapen, late, status-stored, program-counter-stored, first-read, second-read, unpaged-odd, unpaged-nowhere, unpaged-window, unpaged-fetch, unpaged-transfer, violation, fetch, transfer, inner-transfer}
@@ -29,26 +29,9 @@ keys-judged (not-writable r l) = rw (r, l)
 keys-judged (not-public r l h) = rw (r, l, h)
 keys-judged (granted r l h) = rw (r, l, h)
 
--- a target that is there passes step 10
-module _ (m : Memory) (j : Job) (at : ℕ) where
-  unpaged-target-there : {pl : Place} → There pl → unpagedTarget m j at pl ≡ unpagedReached m j at pl
-  unfolding unpagedTarget
-  unpaged-target-there memory = refl
-  unpaged-target-there register = refl
-
-  outer-target-there : (e : Entry) {pl : Place} → There pl → outerTarget m j at e pl ≡ pagedReached m j at e pl
-  unfolding outerTarget
-  outer-target-there e memory = refl
-  outer-target-there e register = refl
-
-  inner-target-there : {pl : Place} → There pl → innerTarget m j at pl ≡ transferred m j at pl
-  unfolding innerTarget
-  inner-target-there memory = refl
-  inner-target-there register = refl
-
 module _ (m : Memory) (u : Unit) where
   transferred-so :
-      {j : Job} {k : Cells} {at : ℕ} {pl : Place} {d : Ran} → Transfer m j k at pl d → run m (u .maps) (transferred m j at pl) k ≡ d
+      {j : Job} {k : Cells} {at : ℕ} {t : Target} {d : Ran} → Transfer m j k at t d → run m (u .maps) (transferred m j at t) k ≡ d
   unfolding transferred pick run outcome
   transferred-so (read e) = rw (e, run-readAt)
   transferred-so (store e) = rw e
@@ -70,8 +53,9 @@ module _ (m : Memory) (u : Unit) where
     unfolding unpagedFrom pick
     unpaged-so s = begun-so (s .steps) ∙ rw (s .mode, s .even)
 
-    unpaged-there-so : {pl : Place} → UnpagedThere m u q pl → goesOn (u .cells) (unpagedReached m (job u q) (unpagedAt (q .addr)) pl)
-    unpaged-there-so s = unpaged-so (s .steps) ∙ rw (s .place, unpaged-target-there, s .there)
+    unpaged-there-so : {t : Target} → UnpagedThere m u q t → goesOn (u .cells) (unpagedReached m (job u q) (unpagedAt (q .addr)) t)
+    unfolding unpagedTarget
+    unpaged-there-so s = unpaged-so (s .steps) ∙ rw (s .place)
 
     paged-so : Paged m u q → goesOn (u .cells) (pagedFrom m (job u q))
     unfolding pick
@@ -92,9 +76,10 @@ module _ (m : Memory) (u : Unit) where
     granted-so s = asked-so (s .steps) ∙ rw (keys-judged (s .keys))
 
     paged-there-so :
-        {page : ℕ} {pl : Place} → PagedThere m u q page pl
-        → goesOn (outer m u q .cells) (pagedReached m (job u q) (outerAt q page) (outer m u q .entry) pl)
-    paged-there-so s = granted-so (s .steps) ∙ rw (s .place, outer-target-there, s .there)
+        {page : ℕ} {t : Target} → PagedThere m u q page t
+        → goesOn (outer m u q .cells) (pagedReached m (job u q) (outerAt q page) (outer m u q .entry) t)
+    unfolding outerTarget
+    paged-there-so s = granted-so (s .steps) ∙ rw (s .place)
 
     windowed-so : Windowed m u q → goesOn (outer m u q .cells) (windowed m (job u q))
     unfolding outerTarget pick
@@ -112,8 +97,9 @@ module _ (m : Memory) (u : Unit) where
     inner-granted-so s = inner-asked-so (s .steps) ∙ rw (keys-judged (s .keys))
 
     inner-there-so :
-        {page : ℕ} {pl : Place} → InnerThere m u q page pl → goesOn (inner m u q .cells) (transferred m (job u q) (innerAt u q page) pl)
-    inner-there-so s = inner-granted-so (s .steps) ∙ rw (s .place, inner-target-there, s .there)
+        {page : ℕ} {t : Target} → InnerThere m u q page t → goesOn (inner m u q .cells) (transferred m (job u q) (innerAt u q page) t)
+    unfolding innerTarget
+    inner-there-so s = inner-granted-so (s .steps) ∙ rw (s .place)
 
     -- what refuses an access determines what it decided
     refused-so :

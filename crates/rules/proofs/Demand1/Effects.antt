@@ -6,19 +6,19 @@ use native.Mathlib.Omega.{arith}
 use lib.Dec.{eqb, ltb, lit<}
 use lib.ListN.{length}
 use borrow.Author.Tests.{ltb-true, ltb-false, eqb-true, eqb-false, not-true, not-false}
-use Rattle.rules.specs.Types.{Cells, Unit, Access, Call, Place, Part, Register, Answer, Ran}
+use Rattle.rules.specs.Types.{Cells, Unit, Access, Call, Operating, Associative, Register, Target, Place, Part, Answer, Ran}
 use Rattle.rules.specs.Memory.{Memory, goodLength}
 use Rattle.rules.specs.Registers.{placeOf, partOf}
 use Rattle.rules.specs.Fetched.{isFetch, isDato}
 use Rattle.rules.specs.Steps.{listed, wordDati, illFitting, wellShaped}
-use Rattle.rules.specs.Order.{outcome, storedAt, memoryEffect, registerEffect}
+use Rattle.rules.specs.Order.{outcome, operatingEffect, associativeEffect, memoryEffect, storedIn, storedAt}
 use Rattle.rules.specs.Answers.{shownAs, shown}
 use Rattle.rules.proofs.Laws.Choices.{both-true, both-false, second-false, picked}
 use Rattle.rules.proofs.Promises.{job}
-use Rattle.rules.proofs.Statements.Ways.{There, memory, register, Transfer, read, store}
+use Rattle.rules.proofs.Statements.Ways.{Transfer, read, store}
 use Rattle.rules.proofs.Statements.Ways.{Way, misshapen, late, status-stored, program-counter-stored, first-read, second-read, unpaged-odd, unpaged-nowhere, unpaged-window, unpaged-fetch, unpaged-transfer, violation, fetch, transfer, inner-transfer}
 use Rattle.rules.proofs.Statements.Ways.{Why, access, interrupt-late, interrupt-taken, unlisted, trap-late, trap-taken, init}
-use Rattle.rules.proofs.Statements.Ways.{Stores, word-store, byte-store, ktmr-store, ktcs-store, kept-store, ktum-store, ktem-store, pad-store}
+use Rattle.rules.proofs.Statements.Ways.{operating, associative, Stores, word-store, byte-store, ktmr-store, ktcs-store, kept-store, ktum-store, ktem-store, pad-store}
 use Rattle.rules.proofs.Statements.Ways.{Does, after-refusal, after-unpaged-time-out, after-fault, after-init, after-interrupt, after-trap, after-sequence, after-read, after-store, EffectsByAnswer}
 use Rattle.rules.proofs.Demand1.InOrder.{granted-paged, inner-granted-paged}
 use Rattle.rules.proofs.Demand1.Ended.{op-listed}
@@ -37,7 +37,7 @@ fetch-reads len q s e =
 -- into memory: operation 3 stores a byte, and the other operation that stores, 2, a word
 memory-stores :
     (len : ℕ) (u : Unit) (q : Access) (at : ℕ) → wellShaped len q ≡ true → ltb (q .op) 2 ≡ false
-    → Stores u q at Place.Memory (memoryEffect (partOf (q .op) at) at (q .datum))
+    → Stores u q at Target.Memory (memoryEffect (partOf (q .op) at) at (q .datum))
 unfolding partOf memoryEffect
 memory-stores len u q at s e =
     picked stores (eqb (q .op) 3) _ _
@@ -45,23 +45,34 @@ memory-stores len u q at s e =
     (λ t. word-store (omega (arith, op-listed len q s, ltb-false (q .op) 2 e, eqb-false (q .op) 3 t)))
   where
     stores : Part → Type 0
-    stores p = Stores u q at Place.Memory (memoryEffect p at (q .datum))
+    stores p = Stores u q at Target.Memory (memoryEffect p at (q .datum))
+
+-- and into a register what its own rule says
+module _ (u : Unit) (q : Access) (at : ℕ) where
+  operating-stores : (g : Operating) → Stores u q at (operating g) (operatingEffect (u .maps) (partOf (q .op) at) (q .datum) g)
+  unfolding operatingEffect
+  operating-stores Operating.Ktcs = ktcs-store
+  operating-stores (Operating.Kept i) = kept-store
+  operating-stores Operating.Ktum = ktum-store
+  operating-stores Operating.Ktem = ktem-store
+
+  associative-stores : (g : Associative) → Stores u q at (associative g) (associativeEffect (partOf (q .op) at) (q .datum) g)
+  unfolding associativeEffect
+  associative-stores Associative.Ktmr = ktmr-store
+  associative-stores (Associative.Pad i) = pad-store
 
 module _ {m : Memory} {u : Unit} where
   transfer-does :
-      {q : Access} {k : Cells} {at : ℕ} {pl : Place} {d : Ran} → wellShaped (length m) q ≡ true → placeOf (length m) at ≡ pl → There pl
-      → Transfer m (job u q) k at pl d
+      {q : Access} {k : Cells} {at : ℕ} {t : Target} {d : Ran} → wellShaped (length m) q ≡ true → placeOf (length m) at ≡ Place.There t
+      → Transfer m (job u q) k at t d
       → Does m u (Call.Access q) (d .outcome .answer) (d .outcome .effect)
-  unfolding outcome storedAt registerEffect
-  transfer-does {q} s p t (read e) = after-read (ltb-true (q .op) 2 e)
-  transfer-does {q} {at} s p memory (store e) =
-      after-store (ltb-false (q .op) 2 e) p (memory-stores (length m) u q at s e)
-  transfer-does {q} s p (register {g = Register.Ktmr}) (store e) = after-store (ltb-false (q .op) 2 e) p ktmr-store
-  transfer-does {q} s p (register {g = Register.Ktcs}) (store e) = after-store (ltb-false (q .op) 2 e) p ktcs-store
-  transfer-does {q} s p (register {g = Register.Kept i}) (store e) = after-store (ltb-false (q .op) 2 e) p kept-store
-  transfer-does {q} s p (register {g = Register.Ktum}) (store e) = after-store (ltb-false (q .op) 2 e) p ktum-store
-  transfer-does {q} s p (register {g = Register.Ktem}) (store e) = after-store (ltb-false (q .op) 2 e) p ktem-store
-  transfer-does {q} s p (register {g = Register.Pad i}) (store e) = after-store (ltb-false (q .op) 2 e) p pad-store
+  unfolding outcome storedIn storedAt
+  transfer-does {q} s p (read e) = after-read (ltb-true (q .op) 2 e)
+  transfer-does {q} {at} {t = Target.Memory} s p (store e) = after-store (ltb-false (q .op) 2 e) p (memory-stores (length m) u q at s e)
+  transfer-does {q} {at} {t = Target.In (Register.Operating g)} s p (store e) =
+      after-store (ltb-false (q .op) 2 e) p (operating-stores u q at g)
+  transfer-does {q} {at} {t = Target.In (Register.Associative g)} s p (store e) =
+      after-store (ltb-false (q .op) 2 e) p (associative-stores u q at g)
 
   access-does : {q : Access} {d : Ran} → Way m u q d → Does m u (Call.Access q) (d .outcome .answer) (d .outcome .effect)
   unfolding shown shownAs
@@ -75,11 +86,11 @@ module _ {m : Memory} {u : Unit} where
   access-does (unpaged-nowhere s e) = after-unpaged-time-out (s .mode)
   access-does (unpaged-window s e) = after-unpaged-time-out (s .mode)
   access-does {q} (unpaged-fetch s t r) = after-read (fetch-reads (length m) q (s .steps .steps .shaped) t)
-  access-does (unpaged-transfer s e t) = transfer-does (s .steps .steps .shaped) (s .place) (s .there) t
+  access-does (unpaged-transfer s e t) = transfer-does (s .steps .steps .shaped) (s .place) t
   access-does (violation r) = after-fault r
   access-does {q} (fetch s t r e) = after-read (fetch-reads (length m) q (granted-paged (s .steps) .steps .shaped) t)
-  access-does (transfer s e t) = transfer-does (granted-paged (s .steps) .steps .shaped) (s .place) (s .there) t
-  access-does (inner-transfer s t) = transfer-does (inner-granted-paged (s .steps) .steps .shaped) (s .place) (s .there) t
+  access-does (transfer s e t) = transfer-does (granted-paged (s .steps) .steps .shaped) (s .place) t
+  access-does (inner-transfer s t) = transfer-does (inner-granted-paged (s .steps) .steps .shaped) (s .place) t
 
   call-does : {c : Call} {d : Ran} → Why m u c d → Does m u c (d .outcome .answer) (d .outcome .effect)
   unfolding shown shownAs

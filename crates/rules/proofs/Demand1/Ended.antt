@@ -7,19 +7,19 @@ use native.Mathlib.Omega.{arith}
 use lib.Dec.{eqb, ltb, lit<}
 use lib.ListN.{length, length-set}
 use borrow.Author.Tests.{ltb-true, ltb-false, eqb-true, eqb-false}
-use Rattle.rules.specs.Types.{Core, Cells, Unit, Access, Call, Place, Part, Register, Fault, Answer, Effect, Ran}
+use Rattle.rules.specs.Types.{Core, Cells, Unit, Access, Call, Operating, Associative, Register, Target, Part, Fault, Answer, Effect, Ran}
 use Rattle.rules.specs.Memory.{Memory, storeWord, storeByte}
 use Rattle.rules.specs.Unit.{withKept}
 use Rattle.rules.specs.Registers.{partOf}
 use Rattle.rules.specs.Maps.{unpaged}
 use Rattle.rules.specs.Steps.{wellShaped, listed}
 use Rattle.rules.specs.Sequences.{timedOut}
-use Rattle.rules.specs.Order.{outcome, storedAt, memoryEffect, registerEffect}
+use Rattle.rules.specs.Order.{outcome, operatingEffect, associativeEffect, memoryEffect, storedIn, storedAt}
 use Rattle.rules.specs.Calls.{mapsAfter, cellsAfter, memoryAfter, settled, callOf}
 use Rattle.rules.specs.Answers.{shownAs, faultShown, shown}
 use Rattle.rules.proofs.Laws.Choices.{picked}
 use Rattle.rules.proofs.Promises.{NumbersOfSteps, job, Numbered, MemoryUntouched, LengthKept, RefusedUnchanged, UnpagedTimeOut, UnpagedRefusal, Violation, PagedRefusal}
-use Rattle.rules.proofs.Statements.Ways.{There, memory, register, ending, unchanged, timeOut, faultEnding, Transfer, read, store, AtFault}
+use Rattle.rules.proofs.Statements.Ways.{ending, unchanged, timeOut, faultEnding, Transfer, read, store, AtFault}
 use Rattle.rules.proofs.Statements.Ways.{Way, misshapen, late, status-stored, program-counter-stored, first-read, second-read, unpaged-odd, unpaged-nowhere, unpaged-window, unpaged-fetch, unpaged-transfer, violation, fetch, transfer, inner-transfer}
 use Rattle.rules.proofs.Statements.Ways.{Why, access, interrupt-late, interrupt-taken, unlisted, trap-late, trap-taken, init, Stored, nothing, word, byte, StoredOnly}
 use Rattle.rules.proofs.Demand1.Why.{why}
@@ -63,17 +63,17 @@ stored m q at s e =
 
 module _ {m : Memory} {u : Unit} where
   transfer-ended :
-      {q : Access} {k : Cells} {at : ℕ} {pl : Place} {d : Ran} → wellShaped (length m) q ≡ true → There pl → Transfer m (job u q) k at pl d
+      {q : Access} {k : Cells} {at : ℕ} {t : Target} {d : Ran} → wellShaped (length m) q ≡ true → Transfer m (job u q) k at t d
       → Ended m u (Call.Access q) d
-  unfolding outcome storedAt registerEffect memoryAfter shown shownAs
-  transfer-ended s t (read e) = accepted refl nothing
-  transfer-ended {q} {at} s memory (store e) = accepted refl (stored m q at s e)
-  transfer-ended s (register {g = Register.Ktmr}) (store e) = accepted refl nothing
-  transfer-ended s (register {g = Register.Ktcs}) (store e) = accepted refl nothing
-  transfer-ended s (register {g = Register.Kept i}) (store e) = accepted refl nothing
-  transfer-ended s (register {g = Register.Ktum}) (store e) = accepted refl nothing
-  transfer-ended s (register {g = Register.Ktem}) (store e) = accepted refl nothing
-  transfer-ended s (register {g = Register.Pad i}) (store e) = accepted refl nothing
+  unfolding outcome operatingEffect associativeEffect storedIn storedAt memoryAfter shown shownAs
+  transfer-ended s (read e) = accepted refl nothing
+  transfer-ended {q} {at} {t = Target.Memory} s (store e) = accepted refl (stored m q at s e)
+  transfer-ended {t = Target.In (Register.Operating Operating.Ktcs)} s (store e) = accepted refl nothing
+  transfer-ended {t = Target.In (Register.Operating (Operating.Kept i))} s (store e) = accepted refl nothing
+  transfer-ended {t = Target.In (Register.Operating Operating.Ktum)} s (store e) = accepted refl nothing
+  transfer-ended {t = Target.In (Register.Operating Operating.Ktem)} s (store e) = accepted refl nothing
+  transfer-ended {t = Target.In (Register.Associative Associative.Ktmr)} s (store e) = accepted refl nothing
+  transfer-ended {t = Target.In (Register.Associative (Associative.Pad i))} s (store e) = accepted refl nothing
 
   access-ended : {q : Access} {d : Ran} → Way m u q d → Ended m u (Call.Access q) d
   unfolding memoryAfter shown shownAs
@@ -87,11 +87,11 @@ module _ {m : Memory} {u : Unit} where
   access-ended (unpaged-nowhere s e) = timed-out (s .mode)
   access-ended (unpaged-window s e) = timed-out (s .mode)
   access-ended (unpaged-fetch s t r) = accepted refl nothing
-  access-ended (unpaged-transfer s e t) = transfer-ended (s .steps .steps .shaped) (s .there) t
+  access-ended (unpaged-transfer s e t) = transfer-ended (s .steps .steps .shaped) t
   access-ended (violation r) = violated-at (fault-paged r .mode) r
   access-ended (fetch s t r e) = accepted refl nothing
-  access-ended (transfer s e t) = transfer-ended (granted-paged (s .steps) .steps .shaped) (s .there) t
-  access-ended (inner-transfer s t) = transfer-ended (inner-granted-paged (s .steps) .steps .shaped) (s .there) t
+  access-ended (transfer s e t) = transfer-ended (granted-paged (s .steps) .steps .shaped) t
+  access-ended (inner-transfer s t) = transfer-ended (inner-granted-paged (s .steps) .steps .shaped) t
 
   ended : {c : Call} {d : Ran} → Why m u c d → Ended m u c d
   unfolding memoryAfter shown shownAs

@@ -5,19 +5,19 @@ use mathlib.Core.Path.{_≡_, refl, sym, _∙_}
 use mathlib.Core.List.{List, [], _∷_, _++_}
 use native.Mathlib.Omega.{arith}
 use lib.ListN.{length}
-use Rattle.rules.specs.Types.{Cells, Unit, Access, Call, Place, Entry, Fault, Ruling, Answer, Job, Ran}
+use Rattle.rules.specs.Types.{Cells, Unit, Access, Call, Register, Target, Entry, Fault, Ruling, Answer, Job, Ran}
 use Rattle.rules.specs.Choice.{pick}
 use Rattle.rules.specs.Memory.{Memory}
 use Rattle.rules.specs.Registers.{placeOf}
 use Rattle.rules.specs.Maps.{unpaged}
 use Rattle.rules.specs.Fetched.{isFetch}
 use Rattle.rules.specs.Steps.{watches, forbidden}
-use Rattle.rules.specs.Order.{outcome, wordRead, storedAt}
+use Rattle.rules.specs.Order.{outcome, wordRead, storedIn, storedAt}
 use Rattle.rules.specs.Calls.{settled, callOf}
 use Rattle.rules.specs.Answers.{shownAs, shown}
 use Rattle.rules.proofs.Laws.Choices.{both-true, picked}
 use Rattle.rules.proofs.Promises.{job, outer, inner, pageNamed, outerPlace, innerPhysical, Test, test, firstOf, allPass, entryTests, noTarget, isWindow, unpagedTests, targetTests, outerTests, innerTests, pagedTests, testsOf, faultInside, tagAtFault, cellsLooked, ByTests, AnsweredInOrder}
-use Rattle.rules.proofs.Statements.Ways.{outerAt, innerAt, Keys, off-map, not-resident, not-writable, not-public, granted, exec-zero, There, memory, register, Transfer, read, store}
+use Rattle.rules.proofs.Statements.Ways.{outerAt, innerAt, Keys, off-map, not-resident, not-writable, not-public, granted, exec-zero, Transfer, read, store}
 use Rattle.rules.proofs.Statements.Ways.{Begun, UnpagedThere, Paged, Asked, Granted, PagedThere, Windowed, InnerAsked, InnerGranted, InnerThere}
 use Rattle.rules.proofs.Statements.Ways.{AtFault, odd, keys-refuse, nowhere, window-by-fetch, forbidden-word, inner-odd, inner-keys-refuse, inner-nowhere, window-on-window}
 use Rattle.rules.proofs.Statements.Ways.{Way, misshapen, late, status-stored, program-counter-stored, first-read, second-read, unpaged-odd, unpaged-nowhere, unpaged-window, unpaged-fetch, unpaged-transfer, violation, fetch, transfer, inner-transfer}
@@ -64,14 +64,6 @@ keys-pass (granted r l h) = rw (r, l, h)
 keys-page : {op : ℕ} {watched : Bool} {e : Entry} {page : ℕ} → Keys op watched e (Ruling.Granted page) → pageNamed e ≡ page
 keys-page exec-zero = refl
 keys-page (granted r l h) = refl
-
-there-target : {pl : Place} → There pl → (shut : Bool) → noTarget shut pl ≡ false
-there-target memory shut = refl
-there-target register shut = refl
-
-there-no-window : {pl : Place} → There pl → isWindow pl ≡ false
-there-no-window memory = refl
-there-no-window register = refl
 
 -- A paged access ---------------------------------------------------------------------------------------------------------
 
@@ -125,7 +117,7 @@ module _ {m : Memory} {u : Unit} {q : Access} where
   outer-fault (nowhere s e) a = granted-first s a ∙ rw (outer-place s, e)
   outer-fault (window-by-fetch s e t) a = granted-first s a ∙ rw (outer-place s, e, t)
   outer-fault (forbidden-word s t r e) a =
-      granted-first (s .steps) a ∙ rw (keys-page (s .steps .keys), s .place, there-target (s .there) (isFetch q), t, r, e)
+      granted-first (s .steps) a ∙ rw (keys-page (s .steps .keys), s .place, keys-page (s .steps .keys), t, r, e)
 
   windowed-first : Windowed m u q → (a : Answer) → firstOf (outerTests m u q) a ≡ a
   unfolding pick
@@ -214,26 +206,26 @@ module _ {m : Memory} {u : Unit} {q : Access} where
   fault-first {window = false} r a = paged-first (fault-paged r) a ∙ outer-fault r _
   fault-first {window = true} r a = inner-first (fault-windowed r) a ∙ inner-fault r a
 
-  unpaged-there-first : {pl : Place} → UnpagedThere m u q pl → (a : Answer) → firstOf (testsOf m u (Call.Access q)) a ≡ a
+  unpaged-there-first : {t : Target} → UnpagedThere m u q t → (a : Answer) → firstOf (testsOf m u (Call.Access q)) a ≡ a
   unfolding pick
   unpaged-there-first s a =
-      begun-first (s .steps .steps) a ∙ rw (s .steps .mode, s .steps .even, s .place, there-target (s .there) true)
+      begun-first (s .steps .steps) a ∙ rw (s .steps .mode, s .steps .even, s .place)
 
   -- a paged access whose target is there, and whose word is not forbidden where it is fetched
   there-first :
-      {page : ℕ} {pl : Place} → PagedThere m u q page pl
-      → (isFetch q && forbidden (job u q .core) (outer m u q .entry) (wordRead m (job u q) (outer m u q .cells) (outerAt q page) pl)) ≡ false
+      {page : ℕ} {t : Target} → PagedThere m u q page t
+      → (isFetch q && forbidden (job u q .core) (outer m u q .entry) (wordRead m (job u q) (outer m u q .cells) (outerAt q page) t)) ≡ false
       → (a : Answer) → firstOf (testsOf m u (Call.Access q)) a ≡ a
   unfolding pick
   there-first s e a =
       paged-first (granted-paged (s .steps)) a
       ∙ granted-first (s .steps) _
-      ∙ rw (keys-page (s .steps .keys), s .place, there-target (s .there) (isFetch q), e, there-no-window (s .there))
+      ∙ rw (keys-page (s .steps .keys), s .place, keys-page (s .steps .keys), e)
 
-  inner-there-first : {page : ℕ} {pl : Place} → InnerThere m u q page pl → (a : Answer) → firstOf (testsOf m u (Call.Access q)) a ≡ a
+  inner-there-first : {page : ℕ} {t : Target} → InnerThere m u q page t → (a : Answer) → firstOf (testsOf m u (Call.Access q)) a ≡ a
   unfolding pick
   inner-there-first s a =
-      inner-first (s .steps .steps .steps) a ∙ inner-granted-first (s .steps) a ∙ rw (s .place, there-target (s .there) true)
+      inner-first (s .steps .steps .steps) a ∙ inner-granted-first (s .steps) a ∙ rw (s .place)
 
 -- Every call -------------------------------------------------------------------------------------------------------------
 
@@ -247,12 +239,13 @@ module _ {ts : List Test} where
   done-so {a} z e = record { passed = a; zero = z; first = sym e }
 
   transfer-so :
-      {m : Memory} {j : Job} {k : Cells} {at : ℕ} {pl : Place} {d : Ran} → There pl → Transfer m j k at pl d
-      → ((a : Answer) → firstOf ts a ≡ a) → ByTests ts (d .outcome .answer)
-  unfolding outcome storedAt shown shownAs
-  transfer-so t (read e) h = done-so refl (h _)
-  transfer-so memory (store e) h = done-so refl (h _)
-  transfer-so register (store e) h = done-so refl (h _)
+      {m : Memory} {j : Job} {k : Cells} {at : ℕ} {t : Target} {d : Ran} → Transfer m j k at t d → ((a : Answer) → firstOf ts a ≡ a)
+      → ByTests ts (d .outcome .answer)
+  unfolding outcome storedIn storedAt shown shownAs
+  transfer-so (read e) h = done-so refl (h _)
+  transfer-so {t = Target.Memory} (store e) h = done-so refl (h _)
+  transfer-so {t = Target.In (Register.Operating g)} (store e) h = done-so refl (h _)
+  transfer-so {t = Target.In (Register.Associative g)} (store e) h = done-so refl (h _)
 
 module _ {m : Memory} {u : Unit} where
   way-so : {q : Access} {d : Ran} → Way m u q d → ByTests (testsOf m u (Call.Access q)) (d .outcome .answer)
@@ -267,11 +260,11 @@ module _ {m : Memory} {u : Unit} where
   way-so (unpaged-nowhere s e) = refused-so (begun-first (s .steps) _ ∙ rw (s .mode, s .even, e))
   way-so (unpaged-window s e) = refused-so (begun-first (s .steps) _ ∙ rw (s .mode, s .even, e))
   way-so (unpaged-fetch s t r) = done-so refl (unpaged-there-first s _)
-  way-so (unpaged-transfer s e t) = transfer-so (s .there) t (unpaged-there-first s)
+  way-so (unpaged-transfer s e t) = transfer-so t (unpaged-there-first s)
   way-so (violation r) = refused-so (fault-first r _)
   way-so (fetch s t r e) = done-so refl (there-first s (rw (t, r, e)) _)
-  way-so (transfer s e t) = transfer-so (s .there) t (there-first s (rw e))
-  way-so (inner-transfer s t) = transfer-so (s .there) t (inner-there-first s)
+  way-so (transfer s e t) = transfer-so t (there-first s (rw e))
+  way-so (inner-transfer s t) = transfer-so t (inner-there-first s)
 
   why-so : {c : Call} {d : Ran} → Why m u c d → ByTests (testsOf m u c) (d .outcome .answer)
   unfolding pick shown shownAs

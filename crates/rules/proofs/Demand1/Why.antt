@@ -5,7 +5,7 @@ use mathlib.Core.Path.{_≡_, refl}
 use lib.Dec.{ltb}
 use lib.ListN.{length}
 use borrow.Author.Tests.{not-true, not-false}
-use Rattle.rules.specs.Types.{Cells, Unit, Access, Call, Place, Entry, Due, Ruling, Job}
+use Rattle.rules.specs.Types.{Cells, Unit, Access, Call, Target, Place, Entry, Due, Ruling, Job}
 use Rattle.rules.specs.Memory.{Memory}
 use Rattle.rules.specs.Registers.{placeOf}
 use Rattle.rules.specs.Maps.{unpaged, unpagedAt, residentBit}
@@ -18,7 +18,7 @@ use Rattle.rules.specs.Calls.{interruptOf, trapOf, initOf, called, callO
 use Rattle.rules.proofs.Laws.Choices.{picked}
 use Rattle.rules.proofs.Laws.RunLaws.{run-readAt}
 use Rattle.rules.proofs.Promises.{job, outer, inner}
-use Rattle.rules.proofs.Statements.Ways.{outerAt, innerAt, locked, hidden, Keys, off-map, not-resident, not-writable, not-public, granted, exec-zero, memory, register, Transfer, read, store}
+use Rattle.rules.proofs.Statements.Ways.{outerAt, innerAt, locked, hidden, Keys, off-map, not-resident, not-writable, not-public, granted, exec-zero, Transfer, read, store}
 use Rattle.rules.proofs.Statements.Ways.{Begun, Unpaged, UnpagedThere, Paged, Asked, Granted, PagedThere, Windowed, InnerAsked, InnerGranted}
 use Rattle.rules.proofs.Statements.Ways.{odd, keys-refuse, nowhere, window-by-fetch, forbidden-word, inner-odd, inner-keys-refuse, inner-nowhere, window-on-window}
 use Rattle.rules.proofs.Statements.Ways.{Way, misshapen, late, status-stored, program-counter-stored, first-read, second-read, unpaged-odd, unpaged-nowhere, unpaged-window, unpaged-fetch, unpaged-transfer, violation, fetch, transfer, inner-transfer}
@@ -43,28 +43,27 @@ module _ (op : ℕ) (watched : Bool) where
 -- An access: a lemma for each piece of specs/Order.antt, from the last to the first --------------------------------------
 
 module _ (m : Memory) (u : Unit) where
-  transferred-transfer : (j : Job) (k : Cells) (at : ℕ) (pl : Place) → Transfer m j k at pl (run m (u .maps) (transferred m j at pl) k)
+  transferred-transfer : (j : Job) (k : Cells) (at : ℕ) (t : Target) → Transfer m j k at t (run m (u .maps) (transferred m j at t) k)
   unfolding transferred run outcome
-  transferred-transfer j k at pl =
-      picked (λ p. Transfer m j k at pl (run m (u .maps) p k)) (ltb (j .q .op) 2) _ _ (λ e. rw run-readAt (read e)) store
+  transferred-transfer j k at t =
+      picked (λ p. Transfer m j k at t (run m (u .maps) p k)) (ltb (j .q .op) 2) _ _ (λ e. rw run-readAt (read e)) store
 
   module _ (q : Access) where
     abbrev ends : Cells → Prog → Type 0
     ends k p = Way m u q (run m (u .maps) p k)
 
-    unpagedReached-ends : {pl : Place} → UnpagedThere m u q pl → ends (u .cells) (unpagedReached m (job u q) (unpagedAt (q .addr)) pl)
+    unpagedReached-ends : {t : Target} → UnpagedThere m u q t → ends (u .cells) (unpagedReached m (job u q) (unpagedAt (q .addr)) t)
     unfolding unpagedReached fetched run outcome
-    unpagedReached-ends {pl} s =
+    unpagedReached-ends {t} s =
         picked (ends (u .cells)) (isFetch q) _ _ (λ e. rw run-readAt (unpaged-fetch s e refl))
-        (λ e. unpaged-transfer s e (transferred-transfer (job u q) (u .cells) (unpagedAt (q .addr)) pl))
+        (λ e. unpaged-transfer s e (transferred-transfer (job u q) (u .cells) (unpagedAt (q .addr)) t))
 
     unpagedTarget-ends :
         (pl : Place) → placeOf (length m) (unpagedAt (q .addr)) ≡ pl → Unpaged m u q
         → ends (u .cells) (unpagedTarget m (job u q) (unpagedAt (q .addr)) pl)
     unfolding unpagedTarget unpagedTimeOut run outcome
-    unpagedTarget-ends Place.Memory e s = unpagedReached-ends (record { steps = s; place = e; there = memory })
+    unpagedTarget-ends (Place.There t) e s = unpagedReached-ends (record { steps = s; place = e })
     unpagedTarget-ends Place.Window e s = unpaged-window s e
-    unpagedTarget-ends (Place.In g) e s = unpagedReached-ends (record { steps = s; place = e; there = register })
     unpagedTarget-ends Place.Nowhere e s = unpaged-nowhere s e
 
     unpagedFrom-ends :
@@ -78,11 +77,9 @@ module _ (m : Memory) (u : Unit) where
         {page : ℕ} (pl : Place) → placeOf (length m) (innerAt u q page) ≡ pl → InnerGranted m u q page
         → ends (inner m u q .cells) (innerTarget m (job u q) (innerAt u q page) pl)
     unfolding innerTarget innerFault faulted run outcome
-    innerTarget-ends {page} Place.Memory e s =
-        inner-transfer (record { steps = s; place = e; there = memory }) (transferred-transfer (job u q) _ (innerAt u q page) Place.Memory)
+    innerTarget-ends {page} (Place.There t) e s =
+        inner-transfer (record { steps = s; place = e }) (transferred-transfer (job u q) _ (innerAt u q page) t)
     innerTarget-ends Place.Window e s = violation (window-on-window s e)
-    innerTarget-ends {page} (Place.In g) e s =
-        inner-transfer (record { steps = s; place = e; there = register }) (transferred-transfer (job u q) _ (innerAt u q page) (Place.In g))
     innerTarget-ends Place.Nowhere e s = violation (inner-nowhere s e)
 
     innerRuled-ends :
@@ -98,31 +95,30 @@ module _ (m : Memory) (u : Unit) where
         (λ e. innerRuled-ends _ (judged-keys (q .op) false (inner m u q .entry)) (record { steps = s; even = e }))
 
     wordJudged-ends :
-        {page : ℕ} {pl : Place} (w : ℕ) → wordRead m (job u q) (outer m u q .cells) (outerAt q page) pl ≡ w → PagedThere m u q page pl
+        {page : ℕ} {t : Target} (w : ℕ) → wordRead m (job u q) (outer m u q .cells) (outerAt q page) t ≡ w → PagedThere m u q page t
         → isFetch q ≡ true
-        → ends (outer m u q .cells) (wordJudged (job u q) (outerAt q page) pl (outer m u q .entry) w)
+        → ends (outer m u q .cells) (wordJudged (job u q) (outerAt q page) t (outer m u q .entry) w)
     unfolding wordJudged outerFault faulted fetched run outcome
     wordJudged-ends w r s t =
         picked (ends (outer m u q .cells)) (forbidden (job u q .core) (outer m u q .entry) w) _ _ (λ e. violation (forbidden-word s t r e))
         (fetch s t r)
 
     pagedReached-ends :
-        {page : ℕ} {pl : Place} → PagedThere m u q page pl
-        → ends (outer m u q .cells) (pagedReached m (job u q) (outerAt q page) (outer m u q .entry) pl)
+        {page : ℕ} {t : Target} → PagedThere m u q page t
+        → ends (outer m u q .cells) (pagedReached m (job u q) (outerAt q page) (outer m u q .entry) t)
     unfolding pagedReached
-    pagedReached-ends {page} {pl} s =
+    pagedReached-ends {page} {t} s =
         picked (ends (outer m u q .cells)) (isFetch q) _ _ (λ e. rw run-readAt (wordJudged-ends _ refl s e))
-        (λ e. transfer s e (transferred-transfer (job u q) (outer m u q .cells) (outerAt q page) pl))
+        (λ e. transfer s e (transferred-transfer (job u q) (outer m u q .cells) (outerAt q page) t))
 
     outerTarget-ends :
         {page : ℕ} (pl : Place) → placeOf (length m) (outerAt q page) ≡ pl → Granted m u q page
         → ends (outer m u q .cells) (outerTarget m (job u q) (outerAt q page) (outer m u q .entry) pl)
     unfolding outerTarget outerFault faulted run outcome
-    outerTarget-ends Place.Memory e s = pagedReached-ends (record { steps = s; place = e; there = memory })
+    outerTarget-ends (Place.There t) e s = pagedReached-ends (record { steps = s; place = e })
     outerTarget-ends {page} Place.Window e s =
         picked (ends (outer m u q .cells)) (isFetch q) _ _ (λ t. violation (window-by-fetch s e t))
         (λ t. windowed-ends (record { page = page; steps = s; place = e; no-fetch = t }))
-    outerTarget-ends (Place.In g) e s = pagedReached-ends (record { steps = s; place = e; there = register })
     outerTarget-ends Place.Nowhere e s = violation (nowhere s e)
 
     outerRuled-ends :

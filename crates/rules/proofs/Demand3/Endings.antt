@@ -6,7 +6,7 @@ use native.Mathlib.Omega.{arith}
 use lib.Dec.{eqb, ltb}
 use lib.ListN.{length}
 use borrow.Author.Tests.{eqb-true, eqb-false, eq-eqb, ltb-true, ltb-false, not-true}
-use Rattle.rules.specs.Types.{Wait, Core, Maps, Access, Call, Register, Place, Part, Entry, Due, Fault, Ruling, Answer, Effect, Outcome, Job}
+use Rattle.rules.specs.Types.{Wait, Core, Maps, Access, Call, Operating, Associative, Register, Target, Place, Part, Entry, Due, Fault, Ruling, Answer, Effect, Outcome, Job}
 use Rattle.rules.specs.Memory.{Memory, goodLength}
 use Rattle.rules.specs.Registers.{partOf}
 use Rattle.rules.specs.Maps.{unpaged, unpagedAt, physicalAt, low9}
@@ -14,7 +14,7 @@ use Rattle.rules.specs.Fetched.{isFetch, noted, isDato}
 use Rattle.rules.specs.Steps.{listed, illFitting, wellShaped, serviceDato, startRead, dueWhen, dueOf, oddWord, forbidden}
 use Rattle.rules.specs.Sequences.{vectorListed, idle}
 use Rattle.rules.specs.Program.{Prog, done}
-use Rattle.rules.specs.Order.{outcome, refused, faulted, outerFault, Source, at-hand, in-cells, sourceAt, readFrom, readAt, registerEffect, memoryEffect, storedAt, transferred, fetched, wordJudged, unpagedReached, unpagedTimeOut, unpagedTarget, unpagedFrom, windowAddr, innerFault, innerTarget, innerRuled, windowed, pagedReached, outerTarget, outerRuled, pagedFrom, sequenced, afterWait, accessed}
+use Rattle.rules.specs.Order.{outcome, refused, faulted, outerFault, Source, at-hand, in-cells, sourceAt, readFrom, readAt, operatingEffect, associativeEffect, memoryEffect, storedIn, storedAt, transferred, fetched, wordJudged, unpagedReached, unpagedTimeOut, unpagedTarget, unpagedFrom, windowAddr, innerFault, innerTarget, innerRuled, windowed, pagedReached, outerTarget, outerRuled, pagedFrom, sequenced, afterWait, accessed}
 use Rattle.rules.specs.Calls.{interruptOf, trapOf, initOf, called}
 use Rattle.rules.proofs.Laws.Choices.{both-true, both-false, second-false, picked}
 use Rattle.rules.proofs.Laws.Pages.{pageOf-below}
@@ -88,14 +88,17 @@ memoryEffect-even Part.Whole at v h = h refl
 memoryEffect-even Part.Low at v h = record {}
 memoryEffect-even Part.High at v h = record {}
 
-registerEffect-even : (r : Maps) (p : Part) (v : ℕ) (g : Register) → EvenStore (registerEffect r p v g)
-unfolding registerEffect
-registerEffect-even r p v Register.Ktmr = record {}
-registerEffect-even r p v Register.Ktcs = record {}
-registerEffect-even r p v (Register.Kept i) = record {}
-registerEffect-even r p v Register.Ktum = record {}
-registerEffect-even r p v Register.Ktem = record {}
-registerEffect-even r p v (Register.Pad i) = record {}
+operatingEffect-even : (r : Maps) (p : Part) (v : ℕ) (g : Operating) → EvenStore (operatingEffect r p v g)
+unfolding operatingEffect
+operatingEffect-even r p v Operating.Ktcs = record {}
+operatingEffect-even r p v (Operating.Kept i) = record {}
+operatingEffect-even r p v Operating.Ktum = record {}
+operatingEffect-even r p v Operating.Ktem = record {}
+
+associativeEffect-even : (p : Part) (v : ℕ) (g : Associative) → EvenStore (associativeEffect p v g)
+unfolding associativeEffect
+associativeEffect-even p v Associative.Ktmr = record {}
+associativeEffect-even p v (Associative.Pad i) = record {}
 
 -- a whole word is stored by operation 2 alone
 whole-word : (q : Access) (at : ℕ) → Shaped q → ltb (q .op) 2 ≡ false → partOf (q .op) at ≡ Part.Whole → q .op ≡ 2
@@ -124,39 +127,43 @@ module _ (c : Core) (m : Memory) (j : Job) (shaped : Shaped (j .q)) (calm : Core
   readFrom-ends (in-cells g) f h = peeks-at h
 
   readAt-ends :
-      (at : ℕ) (pl : Place) (f : ℕ → Prog) → ((w : ℕ) → Always (Ending c) (f w)) → Always (Ending c) (readAt m j at pl f)
+      (at : ℕ) (t : Target) (f : ℕ → Prog) → ((w : ℕ) → Always (Ending c) (f w)) → Always (Ending c) (readAt m j at t f)
   unfolding readAt
-  readAt-ends at pl f h = readFrom-ends (sourceAt m j at pl) f h
+  readAt-ends at t f h = readFrom-ends (sourceAt m j at t) f h
 
-  storedAt-ends : (p : Part) (at : ℕ) (pl : Place) → (p ≡ Part.Whole → at % 2 ≡ 0) → Ending c (storedAt j p at pl)
+  storedIn-ends : (p : Part) (at : ℕ) (g : Register) → Ending c (storedIn j p at g)
+  unfolding storedIn outcome
+  storedIn-ends p at (Register.Operating g) =
+      record { even = operatingEffect-even _ p _ g; fits = λ f. CoreLaws.calm-fits (CoreLaws.stored-calm (j .core) p _ g (calm f)) }
+  storedIn-ends p at (Register.Associative g) =
+      record { even = associativeEffect-even p _ g; fits = λ f. CoreLaws.calm-fits (calm f) }
+
+  storedAt-ends : (p : Part) (at : ℕ) (t : Target) → (p ≡ Part.Whole → at % 2 ≡ 0) → Ending c (storedAt j p at t)
   unfolding storedAt outcome
-  storedAt-ends p at Place.Memory h = record { even = memoryEffect-even p at _ h; fits = λ f. CoreLaws.calm-fits (calm f) }
-  storedAt-ends p at Place.Window h = record { even = record {}; fits = λ f. CoreLaws.calm-fits (calm f) }
-  storedAt-ends p at (Place.In g) h =
-      record { even = registerEffect-even _ p _ g; fits = λ f. CoreLaws.calm-fits (CoreLaws.stored-calm (j .core) p _ g (calm f)) }
-  storedAt-ends p at Place.Nowhere h = record { even = record {}; fits = λ f. CoreLaws.calm-fits (calm f) }
+  storedAt-ends p at Target.Memory h = record { even = memoryEffect-even p at _ h; fits = λ f. CoreLaws.calm-fits (calm f) }
+  storedAt-ends p at (Target.In g) h = storedIn-ends p at g
 
-  transferred-ends : (at : ℕ) (pl : Place) → Aligned (j .q) at → Always (Ending c) (transferred m j at pl)
+  transferred-ends : (at : ℕ) (t : Target) → Aligned (j .q) at → Always (Ending c) (transferred m j at t)
   unfolding transferred
-  transferred-ends at pl h =
+  transferred-ends at t h =
       picked (Always (Ending c)) (ltb (j .q .op) 2) _ _
-      (λ t. readAt-ends at pl _ (λ w. keeping-ends c _ _ (λ f. CoreLaws.calm-fits (calm f))))
-      (λ t. ends (storedAt-ends (partOf (j .q .op) at) at pl (λ e. h (whole-word (j .q) at shaped t e))))
+      (λ e. readAt-ends at t _ (λ w. keeping-ends c _ _ (λ f. CoreLaws.calm-fits (calm f))))
+      (λ e. ends (storedAt-ends (partOf (j .q .op) at) at t (λ x. h (whole-word (j .q) at shaped e x))))
 
   fetched-ends : (at : ℕ) (flag : Bool) (w : ℕ) → Always (Ending c) (fetched j at flag w)
   unfolding fetched
   fetched-ends at flag w = keeping-ends c _ _ (λ f. CoreLaws.calm-fits (CoreLaws.fetched-calm (j .core) w flag (calm f)))
 
-  wordJudged-ends : (at : ℕ) (pl : Place) (e : Entry) (w : ℕ) → Always (Ending c) (wordJudged j at pl e w)
+  wordJudged-ends : (at : ℕ) (t : Target) (e : Entry) (w : ℕ) → Always (Ending c) (wordJudged j at t e w)
   unfolding wordJudged
-  wordJudged-ends at pl e w =
-      picked (Always (Ending c)) (forbidden (j .core) e w) _ _ (λ t. outerFault-ends _) (λ t. fetched-ends at _ w)
+  wordJudged-ends at t e w =
+      picked (Always (Ending c)) (forbidden (j .core) e w) _ _ (λ x. outerFault-ends _) (λ x. fetched-ends at _ w)
 
   -- unpaged
-  unpagedReached-ends : (at : ℕ) (pl : Place) → Aligned (j .q) at → Always (Ending c) (unpagedReached m j at pl)
+  unpagedReached-ends : (at : ℕ) (t : Target) → Aligned (j .q) at → Always (Ending c) (unpagedReached m j at t)
   unfolding unpagedReached
-  unpagedReached-ends at pl h =
-      picked (Always (Ending c)) (isFetch (j .q)) _ _ (λ t. readAt-ends at pl _ (fetched-ends at _)) (λ t. transferred-ends at pl h)
+  unpagedReached-ends at t h =
+      picked (Always (Ending c)) (isFetch (j .q)) _ _ (λ e. readAt-ends at t _ (fetched-ends at _)) (λ e. transferred-ends at t h)
 
   unpagedTimeOut-ends : Always (Ending c) (unpagedTimeOut j)
   unfolding unpagedTimeOut
@@ -164,17 +171,15 @@ module _ (c : Core) (m : Memory) (j : Job) (shaped : Shaped (j .q)) (calm : Core
 
   unpagedTarget-ends : (at : ℕ) (pl : Place) → Aligned (j .q) at → Always (Ending c) (unpagedTarget m j at pl)
   unfolding unpagedTarget
-  unpagedTarget-ends at Place.Memory h = unpagedReached-ends at _ h
+  unpagedTarget-ends at (Place.There t) h = unpagedReached-ends at t h
   unpagedTarget-ends at Place.Window h = unpagedTimeOut-ends
-  unpagedTarget-ends at (Place.In g) h = unpagedReached-ends at _ h
   unpagedTarget-ends at Place.Nowhere h = unpagedTimeOut-ends
 
   -- the window's inner access
   innerTarget-ends : (at : ℕ) (pl : Place) → Aligned (j .q) at → Always (Ending c) (innerTarget m j at pl)
   unfolding innerTarget
-  innerTarget-ends at Place.Memory h = transferred-ends at _ h
+  innerTarget-ends at (Place.There t) h = transferred-ends at t h
   innerTarget-ends at Place.Window h = innerFault-ends _
-  innerTarget-ends at (Place.In g) h = transferred-ends at _ h
   innerTarget-ends at Place.Nowhere h = innerFault-ends _
 
   innerRuled-ends : (d : Ruling) → Aligned (j .q) (windowAddr j) → Always (Ending c) (innerRuled m j d)
@@ -189,16 +194,15 @@ module _ (c : Core) (m : Memory) (j : Job) (shaped : Shaped (j .q)) (calm : Core
       (λ t. asks (pageOf-below (windowAddr j)) (λ e. innerRuled-ends _ (addr-aligned (j .q) (windowAddr j) shaped t)))
 
   -- paged
-  pagedReached-ends : (at : ℕ) (e : Entry) (pl : Place) → Aligned (j .q) at → Always (Ending c) (pagedReached m j at e pl)
+  pagedReached-ends : (at : ℕ) (e : Entry) (t : Target) → Aligned (j .q) at → Always (Ending c) (pagedReached m j at e t)
   unfolding pagedReached
-  pagedReached-ends at e pl h =
-      picked (Always (Ending c)) (isFetch (j .q)) _ _ (λ t. readAt-ends at pl _ (wordJudged-ends at pl e)) (λ t. transferred-ends at pl h)
+  pagedReached-ends at e t h =
+      picked (Always (Ending c)) (isFetch (j .q)) _ _ (λ f. readAt-ends at t _ (wordJudged-ends at t e)) (λ f. transferred-ends at t h)
 
   outerTarget-ends : (at : ℕ) (e : Entry) (pl : Place) → Aligned (j .q) at → Always (Ending c) (outerTarget m j at e pl)
   unfolding outerTarget
-  outerTarget-ends at e Place.Memory h = pagedReached-ends at e _ h
+  outerTarget-ends at e (Place.There t) h = pagedReached-ends at e t h
   outerTarget-ends at e Place.Window h = picked (Always (Ending c)) (isFetch (j .q)) _ _ (λ t. outerFault-ends _) (λ t. windowed-ends)
-  outerTarget-ends at e (Place.In g) h = pagedReached-ends at e _ h
   outerTarget-ends at e Place.Nowhere h = outerFault-ends _
 
   outerRuled-ends : (e : Entry) (d : Ruling) → Aligned (j .q) (j .q .addr) → Always (Ending c) (outerRuled m j e d)

@@ -6,7 +6,7 @@ use mathlib.Core.List.{List, [], _++_, append-nil}
 use native.Mathlib.Omega.{arith}
 use lib.Dec.{ltb}
 use lib.ListN.{length}
-use Rattle.rules.specs.Types.{Cells, Unit, Access, Place, Entry, Due, Ruling, Job}
+use Rattle.rules.specs.Types.{Cells, Unit, Access, Target, Place, Entry, Due, Ruling, Job}
 use Rattle.rules.specs.Memory.{Memory}
 use Rattle.rules.specs.Registers.{placeOf}
 use Rattle.rules.specs.Maps.{unpaged, unpagedAt, pageOf}
@@ -34,44 +34,42 @@ module _ (m : Memory) (u : Unit) (j : Job) where
   readFrom-silent (at-hand w) f h k = h w k
   readFrom-silent (in-cells g) f h k = h _ k
 
-  readAt-silent : (at : ℕ) (pl : Place) (f : ℕ → Prog) → ((w : ℕ) → silent (f w)) → silent (readAt m j at pl f)
+  readAt-silent : (at : ℕ) (t : Target) (f : ℕ → Prog) → ((w : ℕ) → silent (f w)) → silent (readAt m j at t f)
   unfolding readAt
-  readAt-silent at pl f h k = readFrom-silent (sourceAt m j at pl) f h k
+  readAt-silent at t f h k = readFrom-silent (sourceAt m j at t) f h k
 
-  transferred-silent : (at : ℕ) (pl : Place) → silent (transferred m j at pl)
+  transferred-silent : (at : ℕ) (t : Target) → silent (transferred m j at t)
   unfolding transferred visitsOf
-  transferred-silent at pl k =
-      picked (λ p. visitsOf m (u .maps) p k ≡ []) (ltb (j .q .op) 2) _ _ (λ e. readAt-silent at pl _ (λ w k₁. refl) k) (λ e. refl)
+  transferred-silent at t k =
+      picked (λ p. visitsOf m (u .maps) p k ≡ []) (ltb (j .q .op) 2) _ _ (λ e. readAt-silent at t _ (λ w k₁. refl) k) (λ e. refl)
 
-  unpagedReached-silent : (at : ℕ) (pl : Place) → silent (unpagedReached m j at pl)
+  unpagedReached-silent : (at : ℕ) (t : Target) → silent (unpagedReached m j at t)
   unfolding unpagedReached fetched visitsOf
-  unpagedReached-silent at pl k =
-      picked (λ p. visitsOf m (u .maps) p k ≡ []) (isFetch (j .q)) _ _ (λ e. readAt-silent at pl _ (λ w k₁. refl) k)
-      (λ e. transferred-silent at pl k)
+  unpagedReached-silent at t k =
+      picked (λ p. visitsOf m (u .maps) p k ≡ []) (isFetch (j .q)) _ _ (λ e. readAt-silent at t _ (λ w k₁. refl) k)
+      (λ e. transferred-silent at t k)
 
   unpagedTarget-silent : (at : ℕ) (pl : Place) → silent (unpagedTarget m j at pl)
   unfolding unpagedTarget unpagedTimeOut visitsOf
-  unpagedTarget-silent at Place.Memory k = unpagedReached-silent at Place.Memory k
+  unpagedTarget-silent at (Place.There t) k = unpagedReached-silent at t k
   unpagedTarget-silent at Place.Window k = refl
-  unpagedTarget-silent at (Place.In g) k = unpagedReached-silent at (Place.In g) k
   unpagedTarget-silent at Place.Nowhere k = refl
 
-  wordJudged-silent : (at : ℕ) (pl : Place) (e : Entry) (w : ℕ) → silent (wordJudged j at pl e w)
+  wordJudged-silent : (at : ℕ) (t : Target) (e : Entry) (w : ℕ) → silent (wordJudged j at t e w)
   unfolding wordJudged outerFault faulted fetched visitsOf
-  wordJudged-silent at pl e w k =
-      picked (λ p. visitsOf m (u .maps) p k ≡ []) (forbidden (j .core) e w) _ _ (λ t. refl) (λ t. refl)
+  wordJudged-silent at t e w k =
+      picked (λ p. visitsOf m (u .maps) p k ≡ []) (forbidden (j .core) e w) _ _ (λ x. refl) (λ x. refl)
 
-  pagedReached-silent : (at : ℕ) (e : Entry) (pl : Place) → silent (pagedReached m j at e pl)
+  pagedReached-silent : (at : ℕ) (e : Entry) (t : Target) → silent (pagedReached m j at e t)
   unfolding pagedReached
-  pagedReached-silent at e pl k =
-      picked (λ p. visitsOf m (u .maps) p k ≡ []) (isFetch (j .q)) _ _ (λ t. readAt-silent at pl _ (wordJudged-silent at pl e) k)
-      (λ t. transferred-silent at pl k)
+  pagedReached-silent at e t k =
+      picked (λ p. visitsOf m (u .maps) p k ≡ []) (isFetch (j .q)) _ _ (λ x. readAt-silent at t _ (wordJudged-silent at t e) k)
+      (λ x. transferred-silent at t k)
 
   innerTarget-silent : (at : ℕ) (pl : Place) → silent (innerTarget m j at pl)
   unfolding innerTarget innerFault faulted visitsOf
-  innerTarget-silent at Place.Memory k = transferred-silent at Place.Memory k
+  innerTarget-silent at (Place.There t) k = transferred-silent at t k
   innerTarget-silent at Place.Window k = refl
-  innerTarget-silent at (Place.In g) k = transferred-silent at (Place.In g) k
   innerTarget-silent at Place.Nowhere k = refl
 
   innerRuled-silent : (d : Ruling) → silent (innerRuled m j d)
@@ -117,14 +115,12 @@ module _ (m : Memory) (u : Unit) (q : Access) where
       {page : ℕ} (pl : Place) → placeOf (length m) (outerAt q page) ≡ pl → Granted m u q page
       → onward (outerTarget m (job u q) (outerAt q page) (outer m u q .entry) pl)
   unfolding outerTarget outerFault faulted visitsOf
-  outerTarget-goes {page} Place.Memory e s =
-      ends-here (s .steps) (λ i. let w : Place.Window ≡ Place.Memory = elsewhere e s i in let y : _≡_ {A = ℕ} 0 1 = cc in omega arith) (pagedReached-silent m u (job u q) _ _ _ _)
+  outerTarget-goes {page} (Place.There t) e s =
+      ends-here (s .steps) (λ i. let w : Place.Window ≡ Place.There t = elsewhere e s i in let y : _≡_ {A = ℕ} 0 1 = cc in omega arith) (pagedReached-silent m u (job u q) _ _ _ _)
   outerTarget-goes {page} Place.Window e s =
       picked onward (isFetch q) _ _
       (λ t. ends-here (s .steps) (λ i. true-is-not-false (sym t ∙ i .steps .no-fetch)) refl)
       (λ t. windowed-goes (record { page = page; steps = s; place = e; no-fetch = t }))
-  outerTarget-goes {page} (Place.In g) e s =
-      ends-here (s .steps) (λ i. let w : Place.Window ≡ Place.In g = elsewhere e s i in let y : _≡_ {A = ℕ} 0 1 = cc in omega arith) (pagedReached-silent m u (job u q) _ _ _ _)
   outerTarget-goes {page} Place.Nowhere e s =
       ends-here (s .steps) (λ i. let w : Place.Window ≡ Place.Nowhere = elsewhere e s i in let y : _≡_ {A = ℕ} 0 1 = cc in omega arith) refl
 

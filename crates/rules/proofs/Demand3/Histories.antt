@@ -6,7 +6,7 @@ use native.Mathlib.Omega.{arith}
 use lib.Dec.{eqb}
 use lib.ListN.{length}
 use borrow.Author.Tests.{eq-eqb, eqb-true}
-use Rattle.rules.specs.Types.{Unit, Access, Call, Place, Register, Answer, Effect}
+use Rattle.rules.specs.Types.{Unit, Access, Call, Operating, Target, Place, Answer, Effect}
 use Rattle.rules.specs.Memory.{Memory}
 use Rattle.rules.specs.Registers.{placeOf}
 use Rattle.rules.specs.Program.{run}
@@ -16,7 +16,7 @@ use Rattle.rules.specs.Answers.{shownAs, shown}
 use Rattle.rules.specs.Runs.{deedIn, deedOf, History, told, inUseAfter, historyAfter, heard}
 use Rattle.rules.proofs.Laws.Choices.{true-is-not-false, picked}
 use Rattle.rules.proofs.Statements.Ways.{violation, access, decided}
-use Rattle.rules.proofs.Statements.Ways.{Stores, word-store, byte-store, ktmr-store, ktcs-store, kept-store, ktum-store, ktem-store, pad-store}
+use Rattle.rules.proofs.Statements.Ways.{operating, Stores, word-store, byte-store, ktmr-store, ktcs-store, kept-store, ktum-store, ktem-store, pad-store}
 use Rattle.rules.proofs.Statements.Ways.{Does, after-refusal, after-unpaged-time-out, after-fault, after-init, after-interrupt, after-trap, after-sequence, after-read, after-store}
 use Rattle.rules.proofs.Statements.PremiseWords.{StoreDone, Forgets, by-init, by-ktum-store, by-ktem-store, by-fault, Becomes, forgotten, stored-into, stays, HistoryByAnswers}
 use Rattle.rules.proofs.Demand1.Determined.{determined}
@@ -41,35 +41,36 @@ storing (Effect.StorePad i p v) = false
 
 -- a store into KTUM or KTEM forgets every page, and one into memory stores
 ktum-forgets :
-    {u : Unit} {q : Access} {at : ℕ} {e : Effect} (tag : ℕ) → Stores u q at (Place.In Register.Ktum) e → forgetting tag e ≡ true
+    {u : Unit} {q : Access} {at : ℕ} {e : Effect} (tag : ℕ) → Stores u q at (operating Operating.Ktum) e → forgetting tag e ≡ true
 ktum-forgets tag ktum-store = refl
 
 ktem-forgets :
-    {u : Unit} {q : Access} {at : ℕ} {e : Effect} (tag : ℕ) → Stores u q at (Place.In Register.Ktem) e → forgetting tag e ≡ true
+    {u : Unit} {q : Access} {at : ℕ} {e : Effect} (tag : ℕ) → Stores u q at (operating Operating.Ktem) e → forgetting tag e ≡ true
 ktem-forgets tag ktem-store = refl
 
-memory-stores : {u : Unit} {q : Access} {at : ℕ} {e : Effect} → Stores u q at Place.Memory e → storing e ≡ true
+memory-stores : {u : Unit} {q : Access} {at : ℕ} {e : Effect} → Stores u q at Target.Memory e → storing e ≡ true
 memory-stores (word-store o) = refl
 memory-stores (byte-store o) = refl
 
 module _ {m : Memory} {u : Unit} where
-  -- a store that is done does what its place asks for
+  -- a store that is done does what its target asks for
   done-stores :
-      {q : Access} {at : ℕ} {pl : Place} {a : Answer} {e : Effect} → Does m u (Call.Access q) a e → a ≡ Answer.Done 0 at → 1 < q .op
-      → placeOf (length m) at ≡ pl → Stores u q at pl e
+      {q : Access} {at : ℕ} {t : Target} {a : Answer} {e : Effect} → Does m u (Call.Access q) a e → a ≡ Answer.Done 0 at → 1 < q .op
+      → placeOf (length m) at ≡ Place.There t → Stores u q at t e
   unfolding shown shownAs
   done-stores (after-refusal n l) h o p = absurd (n (ap (λ (x : Answer). shown x .number) h))
   done-stores (after-unpaged-time-out t) h o p = absurd (let z : _≡_ {A = ℕ} 0 1 = cc in omega arith)
   done-stores (after-fault r) h o p = absurd (let z : _≡_ {A = ℕ} 0 1 = cc in omega arith)
   done-stores after-sequence h o p = absurd (let z : _≡_ {A = ℕ} 0 1 = cc in omega arith)
   done-stores (after-read l) h o p = absurd (omega arith)
-  done-stores {q} {at} {pl} (after-store {at = at₁} {pl = pl₁} {e = e} o₁ p₁ s) h o p =
+  done-stores {q} {at} {t} (after-store {at = at₁} {t = t₁} {e = e} o₁ p₁ s) h o p =
       let x : at₁ ≡ at = cc in
-      let y : pl₁ ≡ pl = sym p₁ ∙ ap (placeOf (length m)) x ∙ p in
-      subst (λ (b : ℕ). Stores u q b pl e) x (subst (λ (l : Place). Stores u q at₁ l e) y s)
+      let z : Place.There t₁ ≡ Place.There t = sym p₁ ∙ ap (placeOf (length m)) x ∙ p in
+      let y : t₁ ≡ t = cc in
+      subst (λ (b : ℕ). Stores u q b t e) x (subst (λ (l : Target). Stores u q at₁ l e) y s)
 
   stores-at :
-      {q : Access} {at : ℕ} {pl : Place} → StoreDone m u q at pl → Stores u q at pl (decided m u (Call.Access q) .outcome .effect)
+      {q : Access} {at : ℕ} {t : Target} → StoreDone m u q at t → Stores u q at t (decided m u (Call.Access q) .outcome .effect)
   unfolding callOf settled
   stores-at {q} s = done-stores (effects-by-answer m u (Call.Access q)) (s .answer) (s .operation) (s .place)
 
@@ -92,7 +93,7 @@ module _ {m : Memory} {u : Unit} where
         (sym (memory-stores (stores-at x)) ∙ ap (λ (d : Call). storing (decided m u d .outcome .effect)) (sym i) ∙ ap storing same ∙ s))
 
     store-becomes :
-        {q : Access} {at : ℕ} {pl : Place} {e : Effect} → Stores u q at pl e → StoreDone m u q at pl
+        {q : Access} {at : ℕ} {t : Target} {e : Effect} → Stores u q at t e → StoreDone m u q at t
         → decided m u (Call.Access q) .outcome .effect ≡ e → Becomes m u tag (h tag) (Call.Access q) (historyAfter e h tag)
     unfolding historyAfter
     store-becomes (word-store o) d same = stored-into d

@@ -3,19 +3,19 @@ use Prim.Native.Nat.{ℕ, _-_, _≤_}
 use mathlib.Core.Path.{_≡_, refl}
 use mathlib.Core.Bool.{Bool, _&&_}
 use native.Mathlib.Omega.{arith}
-use Rattle.rules.specs.Types.{Fetch, Core, Cells, Unit, Access, Call, Register, Place, Part, Job, Ran}
+use Rattle.rules.specs.Types.{Fetch, Core, Cells, Unit, Access, Call, Operating, Register, Target, Part, Job, Ran}
 use Rattle.rules.specs.Memory.{Memory}
 use Rattle.rules.specs.Unit.{clearFetch, withKtcs, withKept, withFetch, initCore}
 use Rattle.rules.specs.Status.{flagsClear}
 use Rattle.rules.specs.Fetched.{isFetch, isDato, counted, normal, instructionNoted, marked, noted, statesMarked, afterFetch}
 use Rattle.rules.specs.Sequences.{serviceAwaited, violated, timedOut, statusStored, programCounterStored, firstReadDone, userStarted, interrupted, trapTaken, trapped}
-use Rattle.rules.specs.Order.{outcome, coreStored, storedAt}
+use Rattle.rules.specs.Order.{outcome, coreStored, storedIn, storedAt}
 use Rattle.rules.specs.Calls.{settled, callOf}
 use Rattle.rules.proofs.Laws.Choices.{picked}
 use Rattle.rules.proofs.Laws.CoreLaws.{oneMore-most}
 use Rattle.rules.proofs.Promises.{NamesCell}
 use Rattle.rules.proofs.Laws.Counter.{run-names, effect-names}
-use Rattle.rules.proofs.Statements.Ways.{There, memory, register, Transfer, read, store}
+use Rattle.rules.proofs.Statements.Ways.{Transfer, read, store}
 use Rattle.rules.proofs.Statements.Ways.{Way, misshapen, late, status-stored, program-counter-stored, first-read, second-read, unpaged-odd, unpaged-nowhere, unpaged-window, unpaged-fetch, unpaged-transfer, violation, fetch, transfer, inner-transfer}
 use Rattle.rules.proofs.Statements.Ways.{Why, access, interrupt-late, interrupt-taken, unlisted, trap-late, trap-taken, init}
 use Rattle.rules.proofs.Demand1.Why.{why}
@@ -54,22 +54,21 @@ noted-fetch c q =
 noted-small : (c : Core) (q : Access) → SmallCounts (c .fetch) → SmallCounts (noted c q .fetch)
 noted-small c q h = rw (noted-fetch c q) (counted-small q (c .fetch) h)
 
-stored-fetch : (c : Core) (p : Part) (v : ℕ) (g : Register) → coreStored c p v g .fetch ≡ c .fetch
+stored-fetch : (c : Core) (p : Part) (v : ℕ) (g : Operating) → coreStored c p v g .fetch ≡ c .fetch
 unfolding coreStored withKtcs withKept
-stored-fetch c p v Register.Ktmr = refl
-stored-fetch c p v Register.Ktcs = refl
-stored-fetch c p v (Register.Kept i) = refl
-stored-fetch c p v Register.Ktum = refl
-stored-fetch c p v Register.Ktem = refl
-stored-fetch c p v (Register.Pad i) = refl
+stored-fetch c p v Operating.Ktcs = refl
+stored-fetch c p v (Operating.Kept i) = refl
+stored-fetch c p v Operating.Ktum = refl
+stored-fetch c p v Operating.Ktem = refl
 
 transfer-small :
-    {m : Memory} {j : Job} {k : Cells} {at : ℕ} {pl : Place} {d : Ran} → SmallCounts (j .core .fetch) → There pl → Transfer m j k at pl d
+    {m : Memory} {j : Job} {k : Cells} {at : ℕ} {t : Target} {d : Ran} → SmallCounts (j .core .fetch) → Transfer m j k at t d
     → SmallCounts (d .outcome .core .fetch)
-unfolding outcome storedAt
-transfer-small h t (read e) = h
-transfer-small h memory (store e) = h
-transfer-small h register (store e) = rw stored-fetch h
+unfolding outcome storedIn storedAt
+transfer-small h (read e) = h
+transfer-small {t = Target.Memory} h (store e) = h
+transfer-small {t = Target.In (Register.Operating g)} h (store e) = rw stored-fetch h
+transfer-small {t = Target.In (Register.Associative g)} h (store e) = h
 
 module _ {m : Memory} {u : Unit} (h : SmallCounts (u .core .fetch)) where
   way-small : {q : Access} {d : Ran} → Way m u q d → SmallCounts (d .outcome .core .fetch)
@@ -84,11 +83,11 @@ module _ {m : Memory} {u : Unit} (h : SmallCounts (u .core .fetch)) where
   way-small {q} (unpaged-nowhere s e) = noted-small (u .core) q h
   way-small {q} (unpaged-window s e) = noted-small (u .core) q h
   way-small (unpaged-fetch s t r) = after-small _ _ _
-  way-small {q} (unpaged-transfer s e t) = transfer-small (noted-small (u .core) q h) (s .there) t
+  way-small {q} (unpaged-transfer s e t) = transfer-small (noted-small (u .core) q h) t
   way-small (violation r) = clear-small
   way-small (fetch s t r e) = after-small _ _ _
-  way-small {q} (transfer s e t) = transfer-small (noted-small (u .core) q h) (s .there) t
-  way-small {q} (inner-transfer s t) = transfer-small (noted-small (u .core) q h) (s .there) t
+  way-small {q} (transfer s e t) = transfer-small (noted-small (u .core) q h) t
+  way-small {q} (inner-transfer s t) = transfer-small (noted-small (u .core) q h) t
 
   why-small : {c : Call} {d : Ran} → Why m u c d → SmallCounts (d .outcome .core .fetch)
   unfolding interrupted trapped serviceAwaited withKtcs initCore

@@ -6,7 +6,7 @@ use mathlib.Core.List.{[]}
 use lib.Dec.{ltb}
 use lib.ListN.{length}
 use borrow.Author.Tests.{lt-ltb}
-use Rattle.rules.specs.Types.{Cells, Unit, Access, Place, Part, Register, Entry, Due, Ruling, Physical, Job}
+use Rattle.rules.specs.Types.{Cells, Unit, Access, Operating, Associative, Register, Target, Place, Part, Entry, Due, Ruling, Physical, Job}
 use Rattle.rules.specs.Memory.{Memory}
 use Rattle.rules.specs.Registers.{placeOf, partOf}
 use Rattle.rules.specs.Maps.{unpaged, unpagedAt}
@@ -14,14 +14,14 @@ use Rattle.rules.specs.Fetched.{isFetch}
 use Rattle.rules.specs.Steps.{wellShaped, dueOf, oddWord, watches, forbidden}
 use Rattle.rules.specs.Sequences.{vectorListed, idle}
 use Rattle.rules.specs.Program.{Prog, run}
-use Rattle.rules.specs.Order.{outcome, refused, faulted, outerFault, sourceIn, sourceAt, readFrom, readAt, registerEffect, memoryEffect, storedAt, transferred, fetched, wordJudged, unpagedReached, unpagedTimeOut, unpagedTarget, unpagedFrom, windowAddr, innerFault, innerTarget, innerRuled, windowed, pagedReached, outerTarget, outerRuled, pagedFrom, sequenced, afterWait, accessed}
+use Rattle.rules.specs.Order.{outcome, refused, faulted, outerFault, sourceIn, sourceAt, readFrom, readAt, associativeEffect, operatingEffect, memoryEffect, storedIn, storedAt, transferred, fetched, wordJudged, unpagedReached, unpagedTimeOut, unpagedTarget, unpagedFrom, windowAddr, innerFault, innerTarget, innerRuled, windowed, pagedReached, outerTarget, outerRuled, pagedFrom, sequenced, afterWait, accessed}
 use Rattle.rules.specs.Calls.{interruptOf, trapOf, initOf, called, settled, callOf}
 use Rattle.rules.specs.Answers.{shownAs, faultShown, shown}
 use Rattle.rules.specs.Runs.{visitsOf, peeks, storesPad, deedIn, deedOf}
 use Rattle.rules.proofs.Laws.Choices.{picked}
 use Rattle.rules.proofs.Promises.{job}
-use Rattle.rules.proofs.Statements.Ways.{outerAt, innerAt, Keys, off-map, not-resident, not-writable, not-public, There, memory, register}
-use Rattle.rules.proofs.Statements.PremiseWords.{inCells, placeAt, ReachesByAnswer, OthersGoNowhere}
+use Rattle.rules.proofs.Statements.Ways.{outerAt, innerAt, Keys, off-map, not-resident, not-writable, not-public}
+use Rattle.rules.proofs.Statements.PremiseWords.{targetInCells, inCells, placeAt, ReachesByAnswer, OthersGoNowhere}
 use Rattle.rules.proofs.Demand1.Why.{judged-keys}
 use Rattle.rules.proofs.Demand1.Effects.{fetch-reads}
 
@@ -44,19 +44,12 @@ module _ (m : Memory) (u : Unit) (op : ℕ) where
     unshown : (w : ℕ) (k : Cells) → inCells op (placeOf (length m) at) ≡ false → Reached (f w) k
     unshown w k e = rw (h w k .peeks-none, h w k .stores-none, h w k .physical) (sym e)
 
-    readIn-reached : (g : Register) (k : Cells) → placeOf (length m) at ≡ Place.In g → Reached (readFrom (sourceIn (j .core) (j .maps) g) f) k
-    unfolding sourceIn readFrom peeks run
-    readIn-reached Register.Ktmr k e = rw (h _ k .physical, e) (sym reads)
-    readIn-reached Register.Ktcs k e = unshown _ k (rw e)
-    readIn-reached (Register.Kept i) k e = unshown _ k (rw e)
-    readIn-reached Register.Ktum k e = unshown _ k (rw e)
-    readIn-reached Register.Ktem k e = unshown _ k (rw e)
-    readIn-reached (Register.Pad i) k e = rw (h _ k .physical, e)
-
-    readAt-reached : (pl : Place) (k : Cells) → placeOf (length m) at ≡ pl → There pl → Reached (readAt m j at pl f) k
-    unfolding sourceAt readFrom readAt
-    readAt-reached pl k e memory = unshown _ k (rw e)
-    readAt-reached pl k e (register {g}) = readIn-reached g k e
+    readAt-reached : (t : Target) (k : Cells) → placeOf (length m) at ≡ Place.There t → Reached (readAt m j at t f) k
+    unfolding sourceIn sourceAt readFrom readAt peeks run
+    readAt-reached Target.Memory k e = unshown _ k (rw e)
+    readAt-reached (Target.In (Register.Operating g)) k e = unshown _ k (rw e)
+    readAt-reached (Target.In (Register.Associative Associative.Ktmr)) k e = rw (h _ k .physical, e) (sym reads)
+    readAt-reached (Target.In (Register.Associative (Associative.Pad i))) k e = rw (h _ k .physical, e)
 
 -- The steps of an access -------------------------------------------------------------------------------------------------------
 
@@ -67,72 +60,76 @@ module _ (m : Memory) (u : Unit) (q : Access) (shaped : wellShaped (length m) q 
   fetch-is-read : isFetch q ≡ true → ltb (q .op) 2 ≡ true
   fetch-is-read t = lt-ltb (q .op) 2 (fetch-reads (length m) q shaped t)
 
-  -- a store: of the places that are there, only a scratchpad word is in the cells
+  -- a store: of the targets, only a scratchpad word is in the cells
   memory-store : (p : Part) (at v : ℕ) → storesPad (memoryEffect p at v) ≡ false
   unfolding storesPad memoryEffect
   memory-store Part.Whole at v = refl
   memory-store Part.Low at v = refl
   memory-store Part.High at v = refl
 
-  register-store :
-      (g : Register) (p : Part) (v : ℕ) → ltb (q .op) 2 ≡ false → storesPad (registerEffect (u .maps) p v g) ≡ inCells (q .op) (Place.In g)
-  unfolding storesPad registerEffect
-  register-store Register.Ktmr p v e = sym e
-  register-store Register.Ktcs p v e = refl
-  register-store (Register.Kept i) p v e = refl
-  register-store Register.Ktum p v e = refl
-  register-store Register.Ktem p v e = refl
-  register-store (Register.Pad i) p v e = refl
+  operating-store : (g : Operating) (p : Part) (v : ℕ) → storesPad (operatingEffect (u .maps) p v g) ≡ false
+  unfolding storesPad operatingEffect
+  operating-store Operating.Ktcs p v = refl
+  operating-store (Operating.Kept i) p v = refl
+  operating-store Operating.Ktum p v = refl
+  operating-store Operating.Ktem p v = refl
 
-  module _ (at : ℕ) (pl : Place) (place : placeOf (length m) at ≡ pl) (there : There pl) (k : Cells) where
+  associative-store :
+      (g : Associative) (p : Part) (v : ℕ) → ltb (q .op) 2 ≡ false
+      → storesPad (associativeEffect p v g) ≡ targetInCells (q .op) (Target.In (Register.Associative g))
+  unfolding storesPad associativeEffect
+  associative-store Associative.Ktmr p v e = sym e
+  associative-store (Associative.Pad i) p v e = refl
+
+  module _ (at : ℕ) (k : Cells) where
     stored-reached :
-        {pl₁ : Place} → There pl₁ → pl₁ ≡ pl → ltb (q .op) 2 ≡ false
-        → storesPad (storedAt (job u q) (partOf (q .op) at) at pl₁ .effect)
-        ≡ inCells (q .op) (placeAt m (shown (storedAt (job u q) (partOf (q .op) at) at pl₁ .answer) .physical))
-    unfolding storedAt outcome shown shownAs
-    stored-reached memory e n = rw (place, ← e) (memory-store (partOf (q .op) at) at (q .datum))
-    stored-reached (register {g}) e n = rw (place, ← e) (register-store g (partOf (q .op) at) (q .datum) n)
+        (t : Target) → placeOf (length m) at ≡ Place.There t → ltb (q .op) 2 ≡ false
+        → storesPad (storedAt (job u q) (partOf (q .op) at) at t .effect)
+        ≡ inCells (q .op) (placeAt m (shown (storedAt (job u q) (partOf (q .op) at) at t .answer) .physical))
+    unfolding storedIn storedAt outcome shown shownAs
+    stored-reached Target.Memory place n = rw place (memory-store (partOf (q .op) at) at (q .datum))
+    stored-reached (Target.In (Register.Operating g)) place n = rw place (operating-store g (partOf (q .op) at) (q .datum))
+    stored-reached (Target.In (Register.Associative g)) place n = rw place (associative-store g (partOf (q .op) at) (q .datum) n)
 
-    transferred-reached : reached k (transferred m (job u q) at pl)
-    unfolding transferred peeks run outcome storesPad shown shownAs
-    transferred-reached =
-        picked (reached k) (ltb (q .op) 2) _ _
-        (λ t. readAt-reached m u (q .op) (job u q) at t _ (λ w k₁. record { peeks-none = refl; stores-none = refl; physical = refl }) pl k place there)
-        (λ t. stored-reached there refl t)
+    module _ (t : Target) (place : placeOf (length m) at ≡ Place.There t) where
+      transferred-reached : reached k (transferred m (job u q) at t)
+      unfolding transferred peeks run outcome storesPad shown shownAs
+      transferred-reached =
+          picked (reached k) (ltb (q .op) 2) _ _
+          (λ r. readAt-reached m u (q .op) (job u q) at r _ (λ w k₁. record { peeks-none = refl; stores-none = refl; physical = refl }) t k place)
+          (λ r. stored-reached t place r)
 
-    unpagedReached-reached : reached k (unpagedReached m (job u q) at pl)
-    unfolding unpagedReached fetched peeks run outcome storesPad shown shownAs
-    unpagedReached-reached =
-        picked (reached k) (isFetch q) _ _
-        (λ t. readAt-reached m u (q .op) (job u q) at (fetch-is-read t) _ (λ w k₁. record { peeks-none = refl; stores-none = refl; physical = refl }) pl k place there)
-        (λ t. transferred-reached)
+      unpagedReached-reached : reached k (unpagedReached m (job u q) at t)
+      unfolding unpagedReached fetched peeks run outcome storesPad shown shownAs
+      unpagedReached-reached =
+          picked (reached k) (isFetch q) _ _
+          (λ f. readAt-reached m u (q .op) (job u q) at (fetch-is-read f) _ (λ w k₁. record { peeks-none = refl; stores-none = refl; physical = refl }) t k place)
+          (λ f. transferred-reached)
 
-    wordJudged-answers : (e : Entry) (w : ℕ) (k₁ : Cells) → Answers m u (q .op) at (wordJudged (job u q) at pl e w) k₁
-    unfolding wordJudged outerFault faulted fetched peeks run outcome storesPad shown faultShown shownAs
-    wordJudged-answers e w k₁ =
-        picked (λ p. Answers m u (q .op) at p k₁) (forbidden (job u q .core) e w) _ _
-        (λ t. record { peeks-none = refl; stores-none = refl; physical = refl })
-        (λ t. record { peeks-none = refl; stores-none = refl; physical = refl })
+      wordJudged-answers : (e : Entry) (w : ℕ) (k₁ : Cells) → Answers m u (q .op) at (wordJudged (job u q) at t e w) k₁
+      unfolding wordJudged outerFault faulted fetched peeks run outcome storesPad shown faultShown shownAs
+      wordJudged-answers e w k₁ =
+          picked (λ p. Answers m u (q .op) at p k₁) (forbidden (job u q .core) e w) _ _
+          (λ x. record { peeks-none = refl; stores-none = refl; physical = refl })
+          (λ x. record { peeks-none = refl; stores-none = refl; physical = refl })
 
-    pagedReached-reached : (e : Entry) → reached k (pagedReached m (job u q) at e pl)
-    unfolding pagedReached
-    pagedReached-reached e =
-        picked (reached k) (isFetch q) _ _
-        (λ t. readAt-reached m u (q .op) (job u q) at (fetch-is-read t) _ (wordJudged-answers e) pl k place there)
-        (λ t. transferred-reached)
+      pagedReached-reached : (e : Entry) → reached k (pagedReached m (job u q) at e t)
+      unfolding pagedReached
+      pagedReached-reached e =
+          picked (reached k) (isFetch q) _ _
+          (λ f. readAt-reached m u (q .op) (job u q) at (fetch-is-read f) _ (wordJudged-answers e) t k place)
+          (λ f. transferred-reached)
 
   unpagedTarget-reached : (at : ℕ) (pl : Place) (k : Cells) → placeOf (length m) at ≡ pl → reached k (unpagedTarget m (job u q) at pl)
   unfolding unpagedTarget unpagedTimeOut peeks run outcome storesPad shown faultShown shownAs
-  unpagedTarget-reached at Place.Memory k e = unpagedReached-reached at Place.Memory e memory k
+  unpagedTarget-reached at (Place.There t) k e = unpagedReached-reached at k t e
   unpagedTarget-reached at Place.Window k e = refl
-  unpagedTarget-reached at (Place.In g) k e = unpagedReached-reached at (Place.In g) e register k
   unpagedTarget-reached at Place.Nowhere k e = refl
 
   innerTarget-reached : (at : ℕ) (pl : Place) (k : Cells) → placeOf (length m) at ≡ pl → reached k (innerTarget m (job u q) at pl)
   unfolding innerTarget innerFault faulted peeks run outcome storesPad shown faultShown shownAs
-  innerTarget-reached at Place.Memory k e = transferred-reached at Place.Memory e memory k
+  innerTarget-reached at (Place.There t) k e = transferred-reached at k t e
   innerTarget-reached at Place.Window k e = refl
-  innerTarget-reached at (Place.In g) k e = transferred-reached at (Place.In g) e register k
   innerTarget-reached at Place.Nowhere k e = refl
 
   innerRuled-reached : {e : Entry} {d : Ruling} (k : Cells) → Keys (q .op) false e d → reached k (innerRuled m (job u q) d)
@@ -152,9 +149,8 @@ module _ (m : Memory) (u : Unit) (q : Access) (shaped : wellShaped (length m) q 
   outerTarget-reached :
       (at : ℕ) (e : Entry) (pl : Place) (k : Cells) → placeOf (length m) at ≡ pl → reached k (outerTarget m (job u q) at e pl)
   unfolding outerTarget outerFault faulted peeks run outcome storesPad shown faultShown shownAs
-  outerTarget-reached at e Place.Memory k p = pagedReached-reached at Place.Memory p memory k e
+  outerTarget-reached at e (Place.There t) k p = pagedReached-reached at k t p e
   outerTarget-reached at e Place.Window k p = picked (reached k) (isFetch q) _ _ (λ t. refl) (λ t. windowed-reached k)
-  outerTarget-reached at e (Place.In g) k p = pagedReached-reached at (Place.In g) p register k e
   outerTarget-reached at e Place.Nowhere k p = refl
 
   outerRuled-reached :

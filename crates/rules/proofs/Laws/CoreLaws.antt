@@ -6,7 +6,7 @@ use Prim.Native.Nat.{ℕ, _+_, _≤_, _<_}
 use native.Mathlib.Omega.{arith}
 use lib.Dec.{eqb, ltb}
 use borrow.Author.Tests.{eqb-false, ltb-true, ltb-false, not-true}
-use Rattle.rules.specs.Types.{Ktcs, Fetch, Wait, Core, Access, Register, Part, Fault}
+use Rattle.rules.specs.Types.{Ktcs, Fetch, Wait, Core, Access, Operating, Part, Fault}
 use Rattle.rules.specs.Unit.{clearFetch, clearKtcs, withKtcs, withKept, withFetch, initCore}
 use Rattle.rules.specs.Status.{withModes, withStates, withFlags, flagsClear, fcnStored, ktcsStored}
 use Rattle.rules.specs.Fetched.{isFetch, isDato, oneMore, counted, normal, statesMarked, instructionNoted, marked, noted, afterFetch}
@@ -129,15 +129,13 @@ fcnStored-below fcn Part.Whole v h = omega arith
 fcnStored-below fcn Part.Low v h = omega arith
 fcnStored-below fcn Part.High v h = h
 
-pub stored-calm : (c : Core) (p : Part) (v : ℕ) (g : Register) → Calm c → Calm (coreStored c p v g)
+pub stored-calm : (c : Core) (p : Part) (v : ℕ) (g : Operating) → Calm c → Calm (coreStored c p v g)
 unfolding coreStored withKtcs withKept ktcsStored withFlags withModes
-stored-calm c p v Register.Ktmr h = h
-stored-calm c p v Register.Ktcs h =
+stored-calm c p v Operating.Ktcs h =
     record { fcn = fcnStored-below (c .ktcs .fcn) p v (h .fcn); wait = h .wait; datos = h .datos; accesses = h .accesses }
-stored-calm c p v (Register.Kept i) h = record { fcn = h .fcn; wait = h .wait; datos = h .datos; accesses = h .accesses }
-stored-calm c p v Register.Ktum h = h
-stored-calm c p v Register.Ktem h = h
-stored-calm c p v (Register.Pad i) h = h
+stored-calm c p v (Operating.Kept i) h = record { fcn = h .fcn; wait = h .wait; datos = h .datos; accesses = h .accesses }
+stored-calm c p v Operating.Ktum h = h
+stored-calm c p v Operating.Ktem h = h
 
 -- The sequence accesses and the other calls ------------------------------------------------------------------------------------
 

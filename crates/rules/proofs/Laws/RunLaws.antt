@@ -2,7 +2,7 @@
 use Prim.Native.Nat.{ℕ}
 use mathlib.Core.Bool.{Bool, true, false}
 use mathlib.Core.Path.{_≡_, refl}
-use Rattle.rules.specs.Types.{Maps, Cells, Register, Place, Entry, Outcome, Job}
+use Rattle.rules.specs.Types.{Maps, Cells, Associative, Target, Entry, Outcome, Job}
 use Rattle.rules.specs.Choice.{pick}
 use Rattle.rules.specs.Memory.{Memory}
 use Rattle.rules.specs.Registers.{peeked}
@@ -21,7 +21,7 @@ unfolding run
 run-ask m r user p f k = refl
 
 pub run-peek :
-    (m : Memory) (r : Maps) (g : Register) (f : ℕ → Prog) (k : Cells) → run m r (peek g f) k ≡ run m r (f (peeked k g)) k
+    (m : Memory) (r : Maps) (g : Associative) (f : ℕ → Prog) (k : Cells) → run m r (peek g f) k ≡ run m r (f (peeked k g)) k
 unfolding run
 run-peek m r g f k = refl
 
@@ -38,7 +38,7 @@ run-readFrom m r (at-hand w) f k = refl
 run-readFrom m r (in-cells g) f k = refl
 
 pub run-readAt :
-    (m : Memory) (r : Maps) (j : Job) (at : ℕ) (pl : Place) (f : ℕ → Prog) (k : Cells)
-    → run m r (readAt m j at pl f) k ≡ run m r (f (wordRead m j k at pl)) k
+    (m : Memory) (r : Maps) (j : Job) (at : ℕ) (t : Target) (f : ℕ → Prog) (k : Cells)
+    → run m r (readAt m j at t f) k ≡ run m r (f (wordRead m j k at t)) k
 unfolding readAt wordRead
-run-readAt m r j at pl f k = run-readFrom m r (sourceAt m j at pl) f k
+run-readAt m r j at t f k = run-readFrom m r (sourceAt m j at t) f k

@@ -8,11 +8,11 @@ use lib.Dec.{eqb, ltb}
 use lib.ListN.{length, set, length-set}
 use lib.Seq.{getD-set-other}
 use borrow.Author.Tests.{eqb-false}
-use Rattle.rules.specs.Types.{Maps, Walk, Entry}
+use Rattle.rules.specs.Types.{Maps, Reads, Walk}
 use Rattle.rules.specs.Choice.{pick}
 use Rattle.rules.specs.Memory.{Memory, byteAt, wordAt, evenOf, storeWord, storeByte}
 use Rattle.rules.specs.Registers.{among}
-use Rattle.rules.specs.Maps.{low9, high7, simple, upperAt, lowerAt, pointedAt, unlessOff, wordWalk, followed, pointerWalk, execWalk, userWalk, walkOf, readsOf, entryOf}
+use Rattle.rules.specs.Maps.{low9, high7, simple, upperAt, lowerAt, pointedAt, unlessOff, wordWalk, followed, pointerWalk, execWalk, userWalk, walkOf, readsOf}
 use Rattle.rules.proofs.Laws.Choices.{both-false}
 use Rattle.rules.proofs.Laws.SearchLaws.{among-first}
 
@@ -66,48 +66,52 @@ pointedAt-even w = upperAt-even (low9 w) (high7 w)
 
 -- One walk is another, if the latter was finished and read nothing at this even address.
 abbrev pub Spared : ℕ → Walk → Walk → Type 0
-Spared e w w₁ = (v : ℕ) → entryOf w ≡ Entry.Mapped v → among e (readsOf w) ≡ false → w₁ ≡ w
+Spared e w w₁ = (v : ℕ) (rs : Reads) → w ≡ Walk.Ended v rs → among e (readsOf rs) ≡ false → w₁ ≡ w
 
 module _ (e : ℕ) (m n : Memory) (d : DifferAt e m n) where
   wordWalk-spared : (at : ℕ) → at % 2 ≡ 0 → Spared e (wordWalk m at) (wordWalk n at)
   unfolding wordWalk unlessOff readsOf pick
-  wordWalk-spared at even v f h = rw (d .lengths) (go (ltb at (length m)) h)
+  wordWalk-spared at even v rs f h = rw (d .lengths) (go (ltb at (length m)) f)
     where
       go :
-          (t : Bool) → among e (readsOf (pick t (Walk.Direct (wordAt m at) at) Walk.Off)) ≡ false
-          → pick t (Walk.Direct (wordAt n at) at) Walk.Off ≡ pick t (Walk.Direct (wordAt m at) at) Walk.Off
-      go true h = ap (λ (w : ℕ). Walk.Direct w at) (d .others at even (eqb-false e at (both-false _ _ (sym (among-first e at []) ∙ h) .0)))
-      go false h = refl
+          (t : Bool) → pick t (Walk.Ended (wordAt m at) (Reads.Direct at)) Walk.Off ≡ Walk.Ended v rs
+          → pick t (Walk.Ended (wordAt n at) (Reads.Direct at)) Walk.Off ≡ pick t (Walk.Ended (wordAt m at) (Reads.Direct at)) Walk.Off
+      go true f =
+          let same : rs ≡ Reads.Direct at = cc in
+          let (k, _) = both-false (eqb e at) _ (sym (among-first e at []) ∙ rw same at h) in
+          ap (λ (w : ℕ). Walk.Ended w (Reads.Direct at)) (d .others at even (eqb-false e at k))
+      go false f = refl
 
   followed-spared :
-      (from at v : ℕ) → from % 2 ≡ 0 → at % 2 ≡ 0 → entryOf (followed m from at) ≡ Entry.Mapped v
-      → among e (readsOf (followed m from at)) ≡ false → (wordAt n from ≡ wordAt m from) × (followed n from at ≡ followed m from at)
-  unfolding followed unlessOff readsOf entryOf pick
-  followed-spared from at v even even₁ f h = rw (d .lengths) (go (ltb at (length m)) f h)
+      (from at v : ℕ) (rs : Reads) → from % 2 ≡ 0 → at % 2 ≡ 0 → followed m from at ≡ Walk.Ended v rs → among e (readsOf rs) ≡ false
+      → (wordAt n from ≡ wordAt m from) × (followed n from at ≡ followed m from at)
+  unfolding followed unlessOff readsOf pick
+  followed-spared from at v rs even even₁ f h = rw (d .lengths) (go (ltb at (length m)) f)
     where
+      ended : ℕ → Walk
+      ended w = Walk.Ended w (Reads.Pointed from at)
+
       go :
-          (t : Bool) → entryOf (pick t (Walk.Pointed (wordAt m at) from at) Walk.Off) ≡ Entry.Mapped v
-          → among e (readsOf (pick t (Walk.Pointed (wordAt m at) from at) Walk.Off)) ≡ false
-          → (wordAt n from ≡ wordAt m from) × (pick t (Walk.Pointed (wordAt n at) from at) Walk.Off ≡ pick t (Walk.Pointed (wordAt m at) from at) Walk.Off)
-      go true f h =
-          let (k, k₁) = both-false (eqb e from) _ (sym (among-first e from (at ∷ [])) ∙ h) in (
-            d .others from even (eqb-false e from k),
-            ap (λ (w : ℕ). Walk.Pointed w from at) (d .others at even₁ (eqb-false e at (both-false _ _ (sym (among-first e at []) ∙ k₁) .0))),
-          )
-      go false f h = (cc, refl)
+          (t : Bool) → pick t (ended (wordAt m at)) Walk.Off ≡ Walk.Ended v rs
+          → (wordAt n from ≡ wordAt m from) × (pick t (ended (wordAt n at)) Walk.Off ≡ pick t (ended (wordAt m at)) Walk.Off)
+      go true f =
+          let same : rs ≡ Reads.Pointed from at = cc in
+          let (k, l) = both-false (eqb e from) _ (sym (among-first e from (at ∷ [])) ∙ rw same at h) in
+          let (k₁, _) = both-false (eqb e at) _ (sym (among-first e at []) ∙ l) in
+          (d .others from even (eqb-false e from k), ap ended (d .others at even₁ (eqb-false e at k₁)))
+      go false f = (cc, refl)
 
   pointerWalk-spared : (from : ℕ) → from % 2 ≡ 0 → Spared e (pointerWalk m from) (pointerWalk n from)
   unfolding pointerWalk unlessOff pick
-  pointerWalk-spared from even v f h = rw (d .lengths) (go (ltb from (length m)) f h)
+  pointerWalk-spared from even v rs f h = rw (d .lengths) (go (ltb from (length m)) f)
     where
       go :
-          (t : Bool) → entryOf (pick t (followed m from (pointedAt (wordAt m from))) Walk.Off) ≡ Entry.Mapped v
-          → among e (readsOf (pick t (followed m from (pointedAt (wordAt m from))) Walk.Off)) ≡ false
+          (t : Bool) → pick t (followed m from (pointedAt (wordAt m from))) Walk.Off ≡ Walk.Ended v rs
           → pick t (followed n from (pointedAt (wordAt n from))) Walk.Off ≡ pick t (followed m from (pointedAt (wordAt m from))) Walk.Off
-      go true f h =
-          let (pointer, word) = followed-spared from (pointedAt (wordAt m from)) v even (pointedAt-even (wordAt m from)) f h in
+      go true f =
+          let (pointer, word) = followed-spared from (pointedAt (wordAt m from)) v rs even (pointedAt-even (wordAt m from)) f h in
           rw pointer word
-      go false f h = refl
+      go false f = refl
 
   pick-spared : (t : Bool) (a b a₁ b₁ : Walk) → Spared e a a₁ → Spared e b b₁ → Spared e (pick t a b) (pick t a₁ b₁)
   unfolding pick

@@ -6,7 +6,7 @@ use mathlib.Core.List.{List, [], _++_}
 use Prim.Native.Nat.{ℕ, _+_, _<_}
 use lib.Dec.{ltb}
 use lib.ListN.{length}
-use Rattle.rules.specs.Types.{Cells, Unit, Access, Call, Register, Place, Fault, Answer, Physical}
+use Rattle.rules.specs.Types.{Cells, Unit, Access, Call, Operating, Associative, Register, Target, Place, Fault, Answer, Physical}
 use Rattle.rules.specs.Memory.{Memory}
 use Rattle.rules.specs.Maps.{pageOf}
 use Rattle.rules.specs.Registers.{placeOf}
@@ -15,7 +15,7 @@ use Rattle.rules.specs.Calls.{callOf}
 use Rattle.rules.specs.Answers.{shown}
 use Rattle.rules.specs.Runs.{Visit, visit, deedOf, Use, unused, History, inUseAfter, struck, heard}
 use Rattle.rules.proofs.Promises.{job}
-use Rattle.rules.proofs.Statements.Ways.{Asked, InnerAsked, AtFault}
+use Rattle.rules.proofs.Statements.Ways.{Asked, InnerAsked, AtFault, operating}
 
 -- The premises are computed along a run from what each call does (`meets` and `deedOf` of specs/Runs.antt). The statements up to the next line
 -- say that this is what 01's words say, by the steps and the answer of the call.
@@ -34,15 +34,15 @@ GoesBySteps = (m : Memory) (u : Unit) (q : Access) → GoesTo m u q (deedOf m u 
 
 -- "no call reaches the scratchpad words or the replacement register": told by the physical address that comes back with answers 0 and 8. A
 -- scratchpad word is reached by any operation, KTMR by those that read; a store into KTMR does nothing, and the premise does without it.
+abbrev pub targetInCells : ℕ → Target → Bool
+targetInCells op Target.Memory = false
+targetInCells op (Target.In (Register.Operating g)) = false
+targetInCells op (Target.In (Register.Associative Associative.Ktmr)) = ltb op 2
+targetInCells op (Target.In (Register.Associative (Associative.Pad i))) = true
+
 abbrev pub inCells : ℕ → Place → Bool
-inCells op Place.Memory = false
+inCells op (Place.There t) = targetInCells op t
 inCells op Place.Window = false
-inCells op (Place.In Register.Ktmr) = ltb op 2
-inCells op (Place.In Register.Ktcs) = false
-inCells op (Place.In (Register.Kept i)) = false
-inCells op (Place.In Register.Ktum) = false
-inCells op (Place.In Register.Ktem) = false
-inCells op (Place.In (Register.Pad i)) = true
 inCells op Place.Nowhere = false
 
 abbrev pub placeAt : Memory → Physical → Place
@@ -66,27 +66,27 @@ pub record OtherCallsIdle (m : Memory) (u : Unit) : Type 0 where
 abbrev pub OthersGoNowhere : Type 0
 OthersGoNowhere = (m : Memory) (u : Unit) → OtherCallsIdle m u
 
--- A store that is done, with its physical address at this place. (That a call is answered so is demand 1's matter.)
-pub record StoreDone (m : Memory) (u : Unit) (q : Access) (at : ℕ) (pl : Place) : Type 0 where
+-- A store that is done, with its physical address at this target. (That a call is answered so is demand 1's matter.)
+pub record StoreDone (m : Memory) (u : Unit) (q : Access) (at : ℕ) (t : Target) : Type 0 where
   pub answer : callOf m u (Call.Access q) .reply .answer ≡ Answer.Done 0 at
   pub operation : 1 < q .op
-  pub place : placeOf (length m) at ≡ pl
+  pub place : placeOf (length m) at ≡ Place.There t
 
 -- "It is forgotten by INIT, a KTUM or KTEM store, or any of answers 4 to 9 with it as the page at fault.": `AtFault` of Ways.antt says of each
 -- such answer which page is at fault, and an unpaged 9 has none
 pub data Forgets (m : Memory) (u : Unit) (tag : ℕ) : Call → Type 0 where
   by-init : Forgets m u tag Call.Init
-  by-ktum-store : {q : Access} {at : ℕ} → StoreDone m u q at (Place.In Register.Ktum) → Forgets m u tag (Call.Access q)
-  by-ktem-store : {q : Access} {at : ℕ} → StoreDone m u q at (Place.In Register.Ktem) → Forgets m u tag (Call.Access q)
+  by-ktum-store : {q : Access} {at : ℕ} → StoreDone m u q at (operating Operating.Ktum) → Forgets m u tag (Call.Access q)
+  by-ktem-store : {q : Access} {at : ℕ} → StoreDone m u q at (operating Operating.Ktem) → Forgets m u tag (Call.Access q)
   by-fault : {q : Access} {f : Fault} {window : Bool} {k : Cells} → AtFault m u q f window tag k → Forgets m u tag (Call.Access q)
 
 -- What a call makes of a page, from what is known of it once the call has gone to its pages: it is forgotten, or stored into, or stays as it is
 -- known, which is where the call neither forgets it nor stores into memory.
 pub data Becomes (m : Memory) (u : Unit) (tag : ℕ) (known : Use) : Call → Use → Type 0 where
   forgotten : {c : Call} → Forgets m u tag c → Becomes m u tag known c unused
-  stored-into : {q : Access} {at : ℕ} → StoreDone m u q at Place.Memory → Becomes m u tag known (Call.Access q) (struck at known)
+  stored-into : {q : Access} {at : ℕ} → StoreDone m u q at Target.Memory → Becomes m u tag known (Call.Access q) (struck at known)
   stays :
-      {c : Call} → (Forgets m u tag c → ⊥) → ((q : Access) (at : ℕ) → c ≡ Call.Access q → StoreDone m u q at Place.Memory → ⊥)
+      {c : Call} → (Forgets m u tag c → ⊥) → ((q : Access) (at : ℕ) → c ≡ Call.Access q → StoreDone m u q at Target.Memory → ⊥)
       → Becomes m u tag known c known
 
 -- So the history of specs/Runs.antt, which goes by what a call does, goes by what it is answered, in 01's words.

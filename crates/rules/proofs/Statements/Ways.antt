@@ -6,7 +6,7 @@ use mathlib.Core.Path.{_≡_}
 use mathlib.Core.Logic.{_≢_}
 use lib.Dec.{eqb, ltb}
 use lib.ListN.{length, getD}
-use Rattle.rules.specs.Types.{Ktcs, Core, Cells, Unit, Access, Call, Register, Place, Entry, Due, Fault, Ruling, Answer, Effect, Job, Ran}
+use Rattle.rules.specs.Types.{Ktcs, Core, Cells, Unit, Access, Call, Operating, Associative, Register, Target, Place, Entry, Due, Fault, Ruling, Answer, Effect, Job, Ran}
 use Rattle.rules.specs.Memory.{Memory, storeWord, storeByte}
 use Rattle.rules.specs.Unit.{withFetch, initCore}
 use Rattle.rules.specs.Registers.{ktpc, ktps, placeOf, partOf, merged}
@@ -52,11 +52,6 @@ pub data Keys (op : ℕ) (watched : Bool) : Entry → Ruling → Type 0 where
       → Keys op watched (Entry.Mapped w) (Ruling.Granted (low9 w))
   exec-zero : {page : ℕ} → Keys op watched (Entry.ExecZero page) (Ruling.Granted page)
 
--- a place that step 10 lets pass
-pub data There : Place → Type 0 where
-  memory : There Place.Memory
-  register : {g : Register} → There (Place.In g)
-
 -- How a call ends --------------------------------------------------------------------------------------------------------
 
 -- an ending: the answer, the new core, what is done to memory, map registers and cells, and the cells that the look-ups left
@@ -84,9 +79,9 @@ abbrev pub fetchDone : Job → ℕ → Bool → ℕ → Cells → Ran
 fetchDone j at flag w k = ending (Answer.Done w at) (withFetch (j .core) (afterFetch (j .core .fetch) w flag)) Effect.Keep k
 
 -- answer 0 of another access: a read by operations 0 and 1, a store by 2 and 3
-pub data Transfer (m : Memory) (j : Job) (k : Cells) (at : ℕ) (pl : Place) : Ran → Type 0 where
-  read : ltb (j .q .op) 2 ≡ true → Transfer m j k at pl (ending (Answer.Done (wordRead m j k at pl) at) (j .core) Effect.Keep k)
-  store : ltb (j .q .op) 2 ≡ false → Transfer m j k at pl (record { outcome = storedAt j (partOf (j .q .op) at) at pl; cells = k })
+pub data Transfer (m : Memory) (j : Job) (k : Cells) (at : ℕ) (t : Target) : Ran → Type 0 where
+  read : ltb (j .q .op) 2 ≡ true → Transfer m j k at t (ending (Answer.Done (wordRead m j k at t) at) (j .core) Effect.Keep k)
+  store : ltb (j .q .op) 2 ≡ false → Transfer m j k at t (record { outcome = storedAt j (partOf (j .q .op) at) at t; cells = k })
 
 module _ (m : Memory) (u : Unit) (q : Access) where
   -- How far an access came. Each of these holds the one before it, and with that all earlier steps' tests ------------------
@@ -102,11 +97,10 @@ module _ (m : Memory) (u : Unit) (q : Access) where
     pub mode : unpaged (u .core .ktcs .fcn) (q .state) ≡ true
     pub even : oddWord (q .width) (q .addr) ≡ false
 
-  -- unpaged, and step 10 passed, with the target at this place
-  pub record UnpagedThere (pl : Place) : Type 0 where
+  -- unpaged, and step 10 passed, with this target
+  pub record UnpagedThere (t : Target) : Type 0 where
     pub steps : Unpaged
-    pub place : placeOf (length m) (unpagedAt (q .addr)) ≡ pl
-    pub there : There pl
+    pub place : placeOf (length m) (unpagedAt (q .addr)) ≡ Place.There t
 
   -- paged, which passes step 3
   pub record Paged : Type 0 where
@@ -124,10 +118,9 @@ module _ (m : Memory) (u : Unit) (q : Access) where
     pub keys : Keys (q .op) (watches (job u q .core .fetch) q) (outer m u q .entry) (Ruling.Granted page)
 
   -- step 10 passed
-  pub record PagedThere (page : ℕ) (pl : Place) : Type 0 where
+  pub record PagedThere (page : ℕ) (t : Target) : Type 0 where
     pub steps : Granted page
-    pub place : placeOf (length m) (outerAt q page) ≡ pl
-    pub there : There pl
+    pub place : placeOf (length m) (outerAt q page) ≡ Place.There t
 
   -- the window: "goes on as a user access to KTAD"
   pub record Windowed : Type 0 where
@@ -147,10 +140,9 @@ module _ (m : Memory) (u : Unit) (q : Access) where
     pub keys : Keys (q .op) false (inner m u q .entry) (Ruling.Granted page)
 
   -- step 10 passed again
-  pub record InnerThere (page : ℕ) (pl : Place) : Type 0 where
+  pub record InnerThere (page : ℕ) (t : Target) : Type 0 where
     pub steps : InnerGranted page
-    pub place : placeOf (length m) (innerAt u q page) ≡ pl
-    pub there : There pl
+    pub place : placeOf (length m) (innerAt u q page) ≡ Place.There t
 
   -- Why steps 5 to 11 refuse a paged access: the fault, whether the page at fault is a window's inner one, its tag, and the cells as step 6
   -- left them. In 01's order.
@@ -170,8 +162,8 @@ module _ (m : Memory) (u : Unit) (q : Access) where
         → AtFault Fault.NoTarget false (outerTag u q) (outer m u q .cells)
     -- "11. For a fetch, the word (8)."
     forbidden-word :
-        {page : ℕ} {pl : Place} {w : ℕ} → PagedThere page pl → isFetch q ≡ true
-        → wordRead m (job u q) (outer m u q .cells) (outerAt q page) pl ≡ w
+        {page : ℕ} {t : Target} {w : ℕ} → PagedThere page t → isFetch q ≡ true
+        → wordRead m (job u q) (outer m u q .cells) (outerAt q page) t ≡ w
         → forbidden (job u q .core) (outer m u q .entry) w ≡ true
         → AtFault (Fault.Forbidden w (outerAt q page)) false (outerTag u q) (outer m u q .cells)
     -- the window's inner access: "through steps 5-8 and 10 again"; "window on window: time-out at step 10"
@@ -214,27 +206,27 @@ module _ (m : Memory) (u : Unit) (q : Access) where
         Unpaged → placeOf (length m) (unpagedAt (q .addr)) ≡ Place.Window → Way (timeOut u q)
     -- unpaged, all steps passed
     unpaged-fetch :
-        {pl : Place} {w : ℕ} → UnpagedThere pl → isFetch q ≡ true
-        → wordRead m (job u q) (u .cells) (unpagedAt (q .addr)) pl ≡ w
+        {t : Target} {w : ℕ} → UnpagedThere t → isFetch q ≡ true
+        → wordRead m (job u q) (u .cells) (unpagedAt (q .addr)) t ≡ w
         → Way (fetchDone (job u q) (unpagedAt (q .addr)) (job u q .core .fetch .public) w (u .cells))
     unpaged-transfer :
-        {pl : Place} {d : Ran} → UnpagedThere pl → isFetch q ≡ false → Transfer m (job u q) (u .cells) (unpagedAt (q .addr)) pl d → Way d
+        {t : Target} {d : Ran} → UnpagedThere t → isFetch q ≡ false → Transfer m (job u q) (u .cells) (unpagedAt (q .addr)) t d → Way d
     -- steps 5 to 11: answers 4 to 8 and a paged 9
     violation :
         {f : Fault} {window : Bool} {tag : ℕ} {k : Cells} → AtFault f window tag k
         → Way (faultEnding u q f window tag k)
     -- paged, all steps passed
     fetch :
-        {page : ℕ} {pl : Place} {w : ℕ} → PagedThere page pl → isFetch q ≡ true
-        → wordRead m (job u q) (outer m u q .cells) (outerAt q page) pl ≡ w
+        {page : ℕ} {t : Target} {w : ℕ} → PagedThere page t → isFetch q ≡ true
+        → wordRead m (job u q) (outer m u q .cells) (outerAt q page) t ≡ w
         → forbidden (job u q .core) (outer m u q .entry) w ≡ false
-        → Way (fetchDone (job u q) (outerAt q page) (flagAfter pl (job u q .core .fetch) (outer m u q .entry)) w (outer m u q .cells))
+        → Way (fetchDone (job u q) (outerAt q page) (flagAfter t (job u q .core .fetch) (outer m u q .entry)) w (outer m u q .cells))
     transfer :
-        {page : ℕ} {pl : Place} {d : Ran} → PagedThere page pl → isFetch q ≡ false
-        → Transfer m (job u q) (outer m u q .cells) (outerAt q page) pl d
+        {page : ℕ} {t : Target} {d : Ran} → PagedThere page t → isFetch q ≡ false
+        → Transfer m (job u q) (outer m u q .cells) (outerAt q page) t d
         → Way d
     inner-transfer :
-        {page : ℕ} {pl : Place} {d : Ran} → InnerThere page pl → Transfer m (job u q) (inner m u q .cells) (innerAt u q page) pl d → Way d
+        {page : ℕ} {t : Target} {d : Ran} → InnerThere page t → Transfer m (job u q) (inner m u q .cells) (innerAt u q page) t d → Way d
 
 -- Why a call ends as it does.
 pub data Why (m : Memory) (u : Unit) : Call → Ran → Type 0 where
@@ -282,22 +274,29 @@ StoredOnly = (m : Memory) (u : Unit) (c : Call) → Stored m c (callOf m u c .re
 
 -- What a call does, by its answer -----------------------------------------------------------------------------------------
 
--- What a store that is done asks for, by the place at which its physical address lies. Into memory goes a DATO's word or a DATOB's byte; KTUM and
+-- a register as a target
+abbrev pub operating : Operating → Target
+operating g = Target.In (Register.Operating g)
+
+abbrev pub associative : Associative → Target
+associative g = Target.In (Register.Associative g)
+
+-- What a store that is done asks for, by the target that lies at its physical address. Into memory goes a DATO's word or a DATOB's byte; KTUM and
 -- KTEM take their part of the data, which forgets all pages; a scratchpad word takes it too; KTMR takes nothing, and the other registers stand in
 -- the core.
-pub data Stores (u : Unit) (q : Access) (at : ℕ) : Place → Effect → Type 0 where
-  word-store : q .op ≡ 2 → Stores u q at Place.Memory (Effect.StoreWord at (q .datum))
-  byte-store : q .op ≡ 3 → Stores u q at Place.Memory (Effect.StoreByte at (q .datum))
-  ktmr-store : Stores u q at (Place.In Register.Ktmr) Effect.Keep
-  ktcs-store : Stores u q at (Place.In Register.Ktcs) Effect.Keep
-  kept-store : {i : ℕ} → Stores u q at (Place.In (Register.Kept i)) Effect.Keep
+pub data Stores (u : Unit) (q : Access) (at : ℕ) : Target → Effect → Type 0 where
+  word-store : q .op ≡ 2 → Stores u q at Target.Memory (Effect.StoreWord at (q .datum))
+  byte-store : q .op ≡ 3 → Stores u q at Target.Memory (Effect.StoreByte at (q .datum))
+  ktcs-store : Stores u q at (operating Operating.Ktcs) Effect.Keep
+  kept-store : {i : ℕ} → Stores u q at (operating (Operating.Kept i)) Effect.Keep
   ktum-store :
-      Stores u q at (Place.In Register.Ktum)
+      Stores u q at (operating Operating.Ktum)
       (Effect.Reload (record { ktum = merged (partOf (q .op) at) (u .maps .ktum) (q .datum); ktem = u .maps .ktem }))
   ktem-store :
-      Stores u q at (Place.In Register.Ktem)
+      Stores u q at (operating Operating.Ktem)
       (Effect.Reload (record { ktum = u .maps .ktum; ktem = merged (partOf (q .op) at) (u .maps .ktem) (q .datum) }))
-  pad-store : {i : ℕ} → Stores u q at (Place.In (Register.Pad i)) (Effect.StorePad i (partOf (q .op) at) (q .datum))
+  ktmr-store : Stores u q at (associative Associative.Ktmr) Effect.Keep
+  pad-store : {i : ℕ} → Stores u q at (associative (Associative.Pad i)) (Effect.StorePad i (partOf (q .op) at) (q .datum))
 
 -- What a call does beside its answer and the core. Its effect is the only thing by which memory, map registers and cells change (`settled` of
 -- specs/Calls.antt; the cells change by step 6 too), and the only thing by which a page is forgotten (`historyAfter` of specs/Runs.antt).
@@ -318,9 +317,9 @@ pub data Does (m : Memory) (u : Unit) : Call → Answer → Effect → Type 0 wh
   after-trap : {v : ℕ} → Does m u (Call.Trap v) (Answer.Taken 0) Effect.Keep
   after-sequence : {q : Access} {w : ℕ} → Does m u (Call.Access q) (Answer.Taken w) Effect.Keep
   after-read : {q : Access} {w at : ℕ} → q .op < 2 → Does m u (Call.Access q) (Answer.Done w at) Effect.Keep
-  -- answer 0 of a store: what its place asks for
+  -- answer 0 of a store: what its target asks for
   after-store :
-      {q : Access} {at : ℕ} {pl : Place} {e : Effect} → 1 < q .op → placeOf (length m) at ≡ pl → Stores u q at pl e
+      {q : Access} {at : ℕ} {t : Target} {e : Effect} → 1 < q .op → placeOf (length m) at ≡ Place.There t → Stores u q at t e
       → Does m u (Call.Access q) (Answer.Done 0 at) e
 
 -- "Forget" for answers 4 to 8 and a paged 9 alone, "Reload" for INIT and a KTUM or KTEM store alone, stores for answer 0 alone

@@ -6,14 +6,14 @@ use borrow.Author.Needs.{needs}
 use Rattle.unpaged.proofs.unpaged_target.Statement.{statement}
 use Rattle.unpaged.proofs.unpaged_target.Tie as tie
 
-enum-told : tie.Need-enum-told
-enum-told c = search needs
+enum-known-pl : tie.Need-enum-known-pl
+enum-known-pl c = search needs
 
 unpaged-reached-requires : tie.Need-unpaged-reached-requires
 unpaged-reached-requires c κs = search needs
 
-enum-told-2 : tie.Need-enum-told-2
-enum-told-2 c = search needs
+enum-told : tie.Need-enum-told
+enum-told c = search needs
 
 unpaged-time-out-requires : tie.Need-unpaged-time-out-requires
 unpaged-time-out-requires c κs = search needs
@@ -21,14 +21,8 @@ unpaged-time-out-requires c κs = search needs
 ended-requires : tie.Need-ended-requires
 ended-requires c κs = search needs
 
-enum-known-pl : tie.Need-enum-known-pl
-enum-known-pl c = search needs
-
-unpaged-reached-requires-2 : tie.Need-unpaged-reached-requires-2
-unpaged-reached-requires-2 c κs = search needs
-
-enum-told-3 : tie.Need-enum-told-3
-enum-told-3 c = search needs
+enum-told-2 : tie.Need-enum-told-2
+enum-told-2 c = search needs
 
 unpaged-time-out-requires-2 : tie.Need-unpaged-time-out-requires-2
 unpaged-time-out-requires-2 c κs = search needs
@@ -38,35 +32,15 @@ ended-requires-2 c κs = search needs
 
 returns : tie.Need-returns
 unfolding unpagedTarget
-returns c = simp (sym (c .unpaged-reached .ensures), c .before .enum-told .given .1)
+returns c = simp (sym (c .unpaged-reached .ensures), c .before .before .pl .given .1)
 
 returns-2 : tie.Need-returns-2
 unfolding unpagedTarget
-returns-2 c = simp (run-done, c .ended .ensures, sym (c .before .unpaged-time-out .ensures), c .before .before .enum-told2 .given .1)
+returns-2 c = simp (run-done, c .ended .ensures, sym (c .before .unpaged-time-out .ensures), c .before .before .enum-told .given .1)
 
 returns-3 : tie.Need-returns-3
 unfolding unpagedTarget
-returns-3 c = simp (sym (c .unpaged-reached2 .ensures), c .before .before .pl .given .1)
-
-returns-4 : tie.Need-returns-4
-unfolding unpagedTarget
-returns-4 c = simp (run-done, c .ended2 .ensures, sym (c .before .unpaged-time-out2 .ensures), c .before .before .enum-told3 .given .1)
+returns-3 c = simp (run-done, c .ended2 .ensures, sym (c .before .unpaged-time-out2 .ensures), c .before .before .enum-told2 .given .1)
 
 pub unpaged-target-spec : {M : Type 1} → statement M
-unpaged-target-spec =
-    tie.close
-    (tie.spec
-    enum-told
-    unpaged-reached-requires
-    enum-told-2
-    unpaged-time-out-requires
-    ended-requires
-    enum-known-pl
-    unpaged-reached-requires-2
-    enum-told-3
-    unpaged-time-out-requires-2
-    ended-requires-2
-    returns
-    returns-2
-    returns-3
-    returns-4)
+unpaged-target-spec = tie.close (tie.spec enum-known-pl unpaged-reached-requires enum-told unpaged-time-out-requires ended-requires enum-told-2 unpaged-time-out-requires-2 ended-requires-2 returns returns-2 returns-3)

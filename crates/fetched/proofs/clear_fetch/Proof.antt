@@ -1,8 +1,8 @@
--- `violations::clear_fetch` meets its contract.
+-- `fetched::clear_fetch` meets its contract.
 use Rattle.rules.specs.Unit.{clearFetch}
 use mathlib.Core.Path.{refl}
-use Rattle.violations.proofs.clear_fetch.Statement.{statement}
-use Rattle.violations.proofs.clear_fetch.Tie as tie
+use Rattle.fetched.proofs.clear_fetch.Statement.{statement}
+use Rattle.fetched.proofs.clear_fetch.Tie as tie
 
 returns : tie.Need-returns
 unfolding clearFetch
