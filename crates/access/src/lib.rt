@@ -16,7 +16,7 @@ ghost use Rattle.rules.specs.Order.{afterWait, accessed};
 fn stepped(m: &[u8], c: Core, r: Maps, q: Access, k: Cells) -> Ran
     ensures { λ o. ⌜ o ≡ run (now (m .entry)) r (afterWait (now (m .entry)) c r q Due.Steps) k ⌝ }
 {
-    if maps::unpaged(c.ktcs.fcn, q.state) {
+    if pages::unpaged(c.ktcs.fcn, q.state) {
         return unpaged::unpaged_from(m, c, r, q, k);
     }
     let noted = fetched::noted(c, q);

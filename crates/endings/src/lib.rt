@@ -51,7 +51,7 @@ fn faulted(j: Job, inner: bool, tag: u16, f: Fault) -> Outcome
 pub fn outer_fault(j: Job, f: Fault) -> Outcome
     ensures { λ r. ⌜ done r ≡ outerFault j f ⌝ }
 {
-    let tag = maps::tag_of(j.core.ktcs.um, maps::page_of(j.q.addr));
+    let tag = pages::tag_of(j.core.ktcs.um, pages::page_of(j.q.addr));
     faulted(j, false, tag, f)
 }
 
@@ -67,7 +67,7 @@ pub fn window_addr(j: Job) -> u16
 pub fn inner_fault(j: Job, f: Fault) -> Outcome
     ensures { λ r. ⌜ done r ≡ innerFault j f ⌝ }
 {
-    let tag = maps::tag_of(true, maps::page_of(window_addr(j)));
+    let tag = pages::tag_of(true, pages::page_of(window_addr(j)));
     faulted(j, true, tag, f)
 }
 

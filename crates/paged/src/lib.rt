@@ -31,7 +31,7 @@ fn inner_ruled(m: &[u8], j: Job, ruling: Ruling, k: Cells) -> Ran
     match ruling {
         Ruling::Refused(f) => transfer::ended(endings::inner_fault(j, f), k),
         Ruling::Granted(page) => {
-            let at = maps::physical_at(page, endings::window_addr(j));
+            let at = pages::physical_at(page, endings::window_addr(j));
             let pl = registers::place_of(m.len(), at);
             inner_target(m, j, at, pl, k)
         }
@@ -47,7 +47,7 @@ fn windowed(m: &[u8], j: Job, k: Cells) -> Ran
         return transfer::ended(endings::inner_fault(j, Fault::OddAddress), k);
     }
     let r = j.maps;
-    let found = maps::looked(m, r, true, maps::page_of(a), k);
+    let found = maps::looked(m, r, true, pages::page_of(a), k);
     let entry = found.entry;
     let ruling = steps::judged(j.q.op, false, entry);
     let after = found.cells;
@@ -95,7 +95,7 @@ fn outer_ruled(m: &[u8], j: Job, e: Entry, ruling: Ruling, k: Cells) -> Ran
     match ruling {
         Ruling::Refused(f) => transfer::ended(endings::outer_fault(j, f), k),
         Ruling::Granted(page) => {
-            let at = maps::physical_at(page, j.q.addr);
+            let at = pages::physical_at(page, j.q.addr);
             let pl = registers::place_of(m.len(), at);
             outer_target(m, j, at, e, pl, k)
         }
@@ -110,7 +110,7 @@ pub fn paged_from(m: &[u8], j: Job, k: Cells) -> Ran
         return transfer::ended(endings::outer_fault(j, Fault::OddAddress), k);
     }
     let r = j.maps;
-    let found = maps::looked(m, r, j.core.ktcs.um, maps::page_of(j.q.addr), k);
+    let found = maps::looked(m, r, j.core.ktcs.um, pages::page_of(j.q.addr), k);
     let entry = found.entry;
     let f = j.core.fetch;
     let q = j.q;

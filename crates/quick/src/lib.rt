@@ -157,7 +157,7 @@ fn fetch_ended(m: &[u8], c: Core, q: Access, v: u16, at: usize) -> Attempt
         return given_up(c);
     }
     let f = c.fetch;
-    let g = fetched::after_fetch(f, w, maps::public_bit(v));
+    let g = fetched::after_fetch(f, w, pages::public_bit(v));
     let mut d = c;
     d.fetch = g;
     ended(d, w, at, Effect::Keep)
@@ -193,7 +193,7 @@ fn held(m: &[u8], c: Core, q: Access, v: u16) -> Attempt
 {
     let f = c.fetch;
     match steps::keys_of(q.op, steps::watches(f, q), v) {
-        Ruling::Granted(page) => reached(m, c, q, v, maps::physical_at(page, q.addr)),
+        Ruling::Granted(page) => reached(m, c, q, v, pages::physical_at(page, q.addr)),
         Ruling::Refused(_) => given_up(c),
     }
 }
@@ -202,11 +202,11 @@ fn held(m: &[u8], c: Core, q: Access, v: u16) -> Attempt
 pub fn attempted(m: &[u8], c: Core, q: Access, list: [Cell; CELLS]) -> Attempt
     ensures { λ o. ⌜ (usual (length (now (m .entry))) c q ≡ true → (k : Cells) → k .list ≡ list → Sound o (now (m .entry)) (λ r. accessed (now (m .entry)) c r q) k) ⌝ }
 {
-    let p = maps::page_of(q.addr);
-    if maps::exec_zero(c.ktcs.um, p) {
+    let p = pages::page_of(q.addr);
+    if pages::exec_zero(c.ktcs.um, p) {
         return given_up(c);
     }
-    match cells::cell_of(list, maps::tag_of(c.ktcs.um, p)) {
+    match cells::cell_of(list, pages::tag_of(c.ktcs.um, p)) {
         Found::At(i) => held(m, c, q, cells::cell_at(list, i).word),
         Found::Missing => given_up(c),
     }

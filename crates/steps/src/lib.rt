@@ -24,13 +24,13 @@ pub fn odd_word(width: u64, a: u16) -> bool
 pub fn keys_of(op: u64, watched: bool, w: u16) -> Ruling
     ensures { λ r. ⌜ r ≡ keysOf op watched w ⌝ }
 {
-    if !maps::resident_bit(w) {
+    if !pages::resident_bit(w) {
         return Ruling::Refused(Fault::NotResident);
     }
-    if (op != 0) & !maps::write_bit(w) {
+    if (op != 0) & !pages::write_bit(w) {
         return Ruling::Refused(Fault::NotWritable);
     }
-    if watched & !maps::public_bit(w) {
+    if watched & !pages::public_bit(w) {
         return Ruling::Refused(Fault::NotPublic);
     }
     Ruling::Granted(w % 512)
@@ -63,7 +63,7 @@ pub fn public_page(e: Entry) -> bool
     match e {
         Entry::OffMap => false,
         Entry::ExecZero(_) => false,
-        Entry::Mapped(w) => maps::public_bit(w),
+        Entry::Mapped(w) => pages::public_bit(w),
     }
 }
 
@@ -74,7 +74,7 @@ pub fn guarded(e: Entry) -> bool
     match e {
         Entry::OffMap => false,
         Entry::ExecZero(_) => false,
-        Entry::Mapped(w) => !maps::public_bit(w),
+        Entry::Mapped(w) => !pages::public_bit(w),
     }
 }
 

@@ -48,7 +48,7 @@ pub fn unpaged_from(m: &[u8], c: Core, r: Maps, q: Access, k: Cells) -> Ran
         core: noted,
         maps: r,
     };
-    let at = maps::unpaged_at(q.addr);
+    let at = pages::unpaged_at(q.addr);
     let pl = registers::place_of(m.len(), at);
     unpaged_target(m, j, at, pl, k)
 }
