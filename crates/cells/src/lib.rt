@@ -1,4 +1,4 @@
-// The associative cells: which cell holds a page, how a walk fills one, and how they are forgotten, emptied and stored into.
+// The associative cells: which cell holds a page, how a walk fills one, how they are forgotten, emptied and stored into, and what is read of them.
 // Every function takes any counter and any index: past the last cell there is nothing to read, and nothing is stored.
 use rules::Associative;
 use rules::CELLS;

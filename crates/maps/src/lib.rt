@@ -17,7 +17,7 @@ fn word_walk(m: &[u8], at: usize) -> Walk
     ensures { λ r. ⌜ r ≡ wordWalk (now (m .entry)) at ⌝ }
 {
     if at < m.len() {
-        Walk::Ended(memory::word_at(m, at), Reads::Direct(at))
+        Walk::Finished(memory::word_at(m, at), Reads::Direct(at))
     } else {
         Walk::Off
     }
@@ -28,7 +28,7 @@ fn followed(m: &[u8], from: usize, to: usize) -> Walk
     ensures { λ r. ⌜ r ≡ followed (now (m .entry)) from to ⌝ }
 {
     if to < m.len() {
-        Walk::Ended(memory::word_at(m, to), Reads::Pointed(from, to))
+        Walk::Finished(memory::word_at(m, to), Reads::Pointed(from, to))
     } else {
         Walk::Off
     }
@@ -84,7 +84,7 @@ pub fn entry_of(w: Walk) -> Entry
     ensures { λ r. ⌜ r ≡ entryOf w ⌝ }
 {
     match w {
-        Walk::Ended(word, _) => Entry::Mapped(word),
+        Walk::Finished(word, _) => Entry::Mapped(word),
         Walk::Off => Entry::OffMap,
     }
 }
@@ -103,7 +103,7 @@ fn filled_by(k: Cells, tag: u16, w: Walk) -> Cells
     ensures { λ r. ⌜ r ≡ filledBy k tag w ⌝ }
 {
     match w {
-        Walk::Ended(word, _) => cells::filled(k, tag, word),
+        Walk::Finished(word, _) => cells::filled(k, tag, word),
         Walk::Off => k,
     }
 }

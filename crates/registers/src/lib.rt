@@ -1,4 +1,5 @@
-// The register table: which address is which register, and the parts of a word that a store covers (01, "Registers").
+// The register table: which address is which register, the parts of a word that a store covers, and what is read of the core and the map
+// registers (01, "Registers").
 ghost use mathlib.Core.Path.{_≡_};
 ghost use lib.ListN.{getD, set};
 ghost use Rattle.rules.specs.Registers.{foundFrom, registerOf, placeIn, placeOf, partOf, merged, operatingWord};
@@ -127,7 +128,7 @@ pub fn kept_stored(kept: [u16; rules::KEPT], i: usize, v: u16) -> [u16; rules::K
     }
 }
 
-// What a read of a register gives that core or map registers answer for.
+// What a read of a register gives that the core or the map registers answer for.
 pub fn operating_word(c: Core, r: Maps, g: Operating) -> u16
     ensures { λ w. ⌜ w ≡ operatingWord c r g ⌝ }
 {

@@ -1,5 +1,5 @@
 -- The promises: demands 1 and 3 as statements about the rules, with the definitions that they need beside those of specs/; the last record lists them.
--- They are proved in other files of this folder, and gathered in Proved.antt.
+-- They are proved in the rooms beside this file, and gathered in Proved.antt.
 use Prim.Native.Nat.{ℕ, _+_, _-_, _≤_, _<_}
 use mathlib.Core.Bool.{Bool, true, false, not, _&&_, _||_}
 use mathlib.Core.Path.{_≡_}
@@ -447,7 +447,7 @@ pub record ExecZeroUncelled : Type 0 where
   pub tag-other : (user : Bool) (p : ℕ) → execZero user p ≡ false → tagOf user p ≢ 0
   pub look-up : (m : Memory) (r : Maps) (k : Cells) → looked m r false 0 k ≡ record { entry = execZeroEntry r; cells = k }
 
--- Demand 3, second part: on the premises, which `meets` of specs/Runs.antt computes (Premises.antt has runs that meet them) ------
+-- Demand 3, second part: on the premises, which `meets` of specs/Runs.antt computes (Computed/Premises.antt has runs that meet them) ---
 
 -- a cell that holds what the walk of its page now gives, so that this walk does not time out
 pub record HoldsItsPage (m : Memory) (r : Maps) (c : Cell) : Type 0 where

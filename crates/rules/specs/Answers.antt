@@ -2,6 +2,7 @@
 use Prim.Native.Nat.{ℕ}
 use Rattle.rules.specs.Types.{Fault, Answer, Physical, Returned}
 
+-- a row of 01's table: number, data and physical address
 unfoldable pub shownAs : ℕ → ℕ → Physical → Returned
 shownAs n d at = record { number = n; datum = d; physical = at }
 

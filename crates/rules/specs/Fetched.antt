@@ -17,6 +17,7 @@ isFetch q = eqb (q .state) 0
 unfoldable pub isDato : Access → Bool
 isDato q = eqb (q .op) 2
 
+-- "004000-004777o" and its like: from the first to the last, both included
 unfoldable pub between : ℕ → ℕ → ℕ → Bool
 between a b w = leb a w && leb w b
 

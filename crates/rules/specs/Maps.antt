@@ -31,6 +31,7 @@ high7 w = w / 512 % 128
 unfoldable pub pageOf : ℕ → ℕ
 pageOf a = high7 a
 
+-- a physical page, with the offset of a virtual address
 unfoldable pub physicalAt : ℕ → ℕ → ℕ
 physicalAt page a = 512 * page + low9 a
 
@@ -70,11 +71,11 @@ unlessOff m at w = pick (ltb at (length m)) w Walk.Off
 
 -- a map word that stands at a place
 unfoldable pub wordWalk : Memory → ℕ → Walk
-wordWalk m at = unlessOff m at (Walk.Ended (wordAt m at) (Reads.Direct at))
+wordWalk m at = unlessOff m at (Walk.Finished (wordAt m at) (Reads.Direct at))
 
 -- the map word that a pointer leads to, and "never a pointer again"
 unfoldable pub followed : Memory → ℕ → ℕ → Walk
-followed m from at = unlessOff m at (Walk.Ended (wordAt m at) (Reads.Pointed from at))
+followed m from at = unlessOff m at (Walk.Finished (wordAt m at) (Reads.Pointed from at))
 
 -- "Other user pages: the word at that same place is a pointer, high 7 bits n, low 9 bits m; the map word is at 512·m+256+2n"
 unfoldable pub pointerWalk : Memory → ℕ → Walk
@@ -90,7 +91,7 @@ unfoldable pub userWalk : Memory → Maps → ℕ → Walk
 userWalk m r p =
     pick (simple (r .ktum) p) (wordWalk m (upperAt (low9 (r .ktum)) p)) (pointerWalk m (upperAt (low9 (r .ktum)) p))
 
--- the walk of a page; it is not asked for exec page 0
+-- the walk of a page that is not exec page 0
 unfoldable pub walkOf : Memory → Maps → Bool → ℕ → Walk
 walkOf m r user p = pick user (userWalk m r p) (execWalk m r p)
 
@@ -101,7 +102,7 @@ readsOf (Reads.Pointed from at) = from ∷ at ∷ []
 
 -- what a walk gives the access
 unfoldable pub entryOf : Walk → Entry
-entryOf (Walk.Ended w rs) = Entry.Mapped w
+entryOf (Walk.Finished w rs) = Entry.Mapped w
 entryOf Walk.Off = Entry.OffMap
 
 -- "Exec page 0": the only page that has neither map word nor cell
@@ -120,6 +121,7 @@ walked m r user p = pick (execZero user p) (execZeroEntry r) (entryOf (walkOf m 
 unfoldable pub tagOf : Bool → ℕ → ℕ
 tagOf user p = pick user (128 + p) p
 
+-- the tag that a cell holds
 unfoldable pub tagIn : Cell → ℕ
 tagIn h = h .tag
 
@@ -131,15 +133,14 @@ cellOf k tag = foundFrom 0 (map tagIn (k .list)) tag
 unfoldable pub stepped : ℕ → ℕ → ℕ
 stepped n counter = pick (ltb counter (0o7 + n)) (counter + 1) 0o10
 
--- "A finished walk fills the cell the counter names, then the counter steps". The first cell is named by 10o, and by
--- what is below it; a number past the last names none. (The counter of a unit that calls make is neither.)
+-- "A finished walk fills the cell the counter names, then the counter steps"; the first cell is named by 10o
 unfoldable pub filled : Cells → ℕ → ℕ → Cells
 filled k tag w =
     record { list = set (k .list) (k .counter - 0o10) (record { tag = tag; word = w }); counter = stepped (length (k .list)) (k .counter) }
 
 -- "A finished walk fills the cell .. A walk that times out fills nothing."
 unfoldable pub filledBy : Cells → ℕ → Walk → Cells
-filledBy k tag (Walk.Ended w rs) = filled k tag w
+filledBy k tag (Walk.Finished w rs) = filled k tag w
 filledBy k tag Walk.Off = k
 
 -- a page that no cell holds

@@ -12,6 +12,7 @@ Memory = List ℕ
 unfoldable pub goodLength : ℕ → Bool
 goodLength n = eqb (n % 2) 0 && leb n 0o760000
 
+-- one byte
 unfoldable pub byteAt : Memory → ℕ → ℕ
 byteAt m at = getD m at 0
 
@@ -23,6 +24,7 @@ wordAt m at = byteAt m at + 256 * byteAt m (at + 1)
 unfoldable pub evenOf : ℕ → ℕ
 evenOf at = at / 2 * 2
 
+-- and a word stored so
 unfoldable pub storeWord : Memory → ℕ → ℕ → Memory
 storeWord m at v = set (set m at (v % 256)) (at + 1) (v / 256 % 256)
 

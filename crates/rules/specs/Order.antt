@@ -17,6 +17,7 @@ use Rattle.rules.specs.Program.{Prog, done, ask, peek}
 
 -- Endings ----------------------------------------------------------------------------------------------------------------
 
+-- what a call decides: its answer, the new core, and what is to be done
 unfoldable pub outcome : Answer → Core → Effect → Outcome
 outcome a c e = record { answer = a; core = c; effect = e }
 
@@ -54,6 +55,7 @@ unfoldable pub readFrom : Source → (ℕ → Prog) → Prog
 readFrom (at-hand w) f = f w
 readFrom (in-cells g) f = peek g f
 
+-- the read at a target
 unfoldable pub readAt : Memory → Job → ℕ → Target → (ℕ → Prog) → Prog
 readAt m j at t f = readFrom (sourceAt m j at t) f
 
@@ -62,10 +64,11 @@ unfoldable pub wordFrom : Cells → Source → ℕ
 wordFrom k (at-hand w) = w
 wordFrom k (in-cells g) = peeked k g
 
+-- and at a target
 unfoldable pub wordRead : Memory → Job → Cells → ℕ → Target → ℕ
 wordRead m j k at t = wordFrom k (sourceAt m j at t)
 
--- A store into a register that core or map registers answer for, of the core: KTCS by its own rule, KTIC to KTDT by word and byte.
+-- What a store into an operating register does to the core: KTCS by its own rule, KTIC to KTDT by word and byte; KTUM and KTEM are none of it.
 unfoldable pub coreStored : Core → Part → ℕ → Operating → Core
 coreStored c p v Operating.Ktcs = withKtcs c (ktcsStored (c .ktcs) p v)
 coreStored c p v (Operating.Kept i) = withKept c (set (c .kept) i (merged p (getD (c .kept) i 0) v))
@@ -177,7 +180,7 @@ windowed m j =
 
 -- The paged access -------------------------------------------------------------------------------------------------------
 
--- a target that is there: step 11 for a fetch, the transfer otherwise
+-- after step 10: step 11 for a fetch, the transfer otherwise
 unfoldable pub pagedReached : Memory → Job → ℕ → Entry → Target → Prog
 pagedReached m j at e t = pick (isFetch (j .q)) (readAt m j at t (wordJudged j at t e)) (transferred m j at t)
 

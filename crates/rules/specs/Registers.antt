@@ -15,6 +15,7 @@ unfoldable pub foundFrom : ℕ → List ℕ → ℕ → Found
 foundFrom i [] x = Found.Missing
 foundFrom i (y ∷ ys) x = pick (eqb x y) (Found.At i) (foundFrom (suc i) ys x)
 
+-- whether a search came to something
 unfoldable pub isFound : Found → Bool
 isFound (Found.At i) = true
 isFound Found.Missing = false
@@ -28,7 +29,7 @@ unfoldable pub wordsFrom : ℕ → ℕ → List ℕ
 wordsFrom a zero = []
 wordsFrom a (suc n) = a ∷ wordsFrom (a + 2) n
 
--- the numbers from which KTIC to KTDT, and the scratchpad words, are counted among the registers
+-- the numbers of KTIC and of the first scratchpad word among the registers, which are counted from KTMR
 abbrev pub firstKept : ℕ
 firstKept = 2
 
@@ -54,6 +55,7 @@ registerOf n =
 unfoldable pub placeIn : ℕ → Place
 placeIn n = pick (eqb n 0) Place.Window (Place.There (Target.In (registerOf (n - 1))))
 
+-- what a search of the table comes to: an address that it does not have is that of nothing
 unfoldable pub placeFound : Found → Place
 placeFound Found.Missing = Place.Nowhere
 placeFound (Found.At n) = placeIn n
@@ -92,15 +94,15 @@ ktad = 4
 abbrev pub ktdt : ℕ
 ktdt = 5
 
--- what a read of a register gives that core or map registers answer for
+-- what a read of a register gives that the core or the map registers answer for
 unfoldable pub operatingWord : Core → Maps → Operating → ℕ
 operatingWord c r Operating.Ktcs = packed (c .ktcs)
 operatingWord c r (Operating.Kept i) = getD (c .kept) i 0
 operatingWord c r Operating.Ktum = r .ktum
 operatingWord c r Operating.Ktem = r .ktem
 
--- what a read of a register gives that the cells answer for: "KTMR reads the counter times 256", by 16 bits whatever the counter is; a scratchpad
--- word reads what its cell holds, which in an empty one is 0
+-- what a read of a register gives that the cells answer for: "KTMR reads the counter times 256", which is in its high byte; a scratchpad word
+-- reads what its cell holds, which in an empty one is 0
 unfoldable pub peeked : Cells → Associative → ℕ
 peeked k Associative.Ktmr = k .counter % 256 * 256
 peeked k (Associative.Pad i) = getD (k .list) i emptyCell .word

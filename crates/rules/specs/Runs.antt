@@ -22,6 +22,7 @@ pub record Seen : Type 0 where
   pub maps : Maps
   pub memory : Memory
 
+-- what is compared, out of all that a call leaves
 unfoldable pub seenIn : After → Seen
 seenIn a = record { answer = a .reply .answer; core = a .reply .unit .core; maps = a .reply .unit .maps; memory = a .memory }
 
@@ -35,6 +36,7 @@ pub record Station : Type 0 where
   pub unit : Unit
   pub memory : Memory
 
+-- one call after the other, each on what the one before it left
 unfoldable pub stationAfter : Memory → Unit → List Call → Station
 stationAfter m u [] = record { unit = u; memory = m }
 stationAfter m u (c ∷ cs) = stationAfter (callOf m u c .memory) (callOf m u c .reply .unit) cs
@@ -44,6 +46,7 @@ pub record Turn : Type 0 where
   pub memory : Memory
   pub call : Call
 
+-- the unit at the end of such a run
 unfoldable pub unitAfter : Unit → List Turn → Unit
 unitAfter u [] = u
 unitAfter u (t ∷ ts) = unitAfter (callOf (t .memory) u (t .call) .reply .unit) ts
@@ -54,6 +57,7 @@ pub record Plain : Type 0 where
   pub core : Core
   pub maps : Maps
 
+-- a unit without its cells
 unfoldable pub plainOf : Unit → Plain
 plainOf u = record { core = u .core; maps = u .maps }
 
@@ -61,16 +65,20 @@ plainOf u = record { core = u .core; maps = u .maps }
 unfoldable pub plainDecision : Memory → Plain → Call → Outcome
 plainDecision m u c = plainRun m (u .maps) (called m (u .core) (u .maps) c)
 
+-- its decision, carried out: there are no cells to change
 unfoldable pub plainSettled : Memory → Maps → Outcome → Seen
 plainSettled m r o =
     record { answer = o .answer; core = o .core; maps = mapsAfter (o .effect) r; memory = memoryAfter (o .effect) m }
 
+-- a call of it
 unfoldable pub plainCall : Memory → Plain → Call → Seen
 plainCall m u c = plainSettled m (u .maps) (plainDecision m u c)
 
+-- the unit with no cells, as a call left it
 unfoldable pub plainIn : Seen → Plain
 plainIn s = record { core = s .core; maps = s .maps }
 
+-- what is seen after each call of a run of it
 unfoldable pub plainAlong : Memory → Plain → List Call → List Seen
 plainAlong m u [] = []
 plainAlong m u (c ∷ cs) = plainCall m u c ∷ plainAlong (plainCall m u c .memory) (plainIn (plainCall m u c)) cs
@@ -116,6 +124,7 @@ pub record Deed : Type 0 where
   pub reaches : Bool
   pub effect : Effect
 
+-- what a program does, by the cells
 unfoldable pub deedIn : Memory → Maps → Prog → Cells → Deed
 deedIn m r p k =
     record {
@@ -124,6 +133,7 @@ deedIn m r p k =
       effect = run m r p k .outcome .effect;
     }
 
+-- what a call does
 unfoldable pub deedOf : Memory → Unit → Call → Deed
 deedOf m u c = deedIn m (u .maps) (called m (u .core) (u .maps) c) (u .cells)
 
@@ -145,9 +155,9 @@ noneInUse t = unused
 
 -- "A page comes into use when an access gets its entry." One that is in use stays as it came.
 unfoldable pub usedBy : Walk → Use → Use
-usedBy (Walk.Ended w rs) unused = inUse (readsOf rs)
-usedBy (Walk.Ended w rs) (inUse ws) = inUse ws
-usedBy (Walk.Ended w rs) outdated = outdated
+usedBy (Walk.Finished w rs) unused = inUse (readsOf rs)
+usedBy (Walk.Finished w rs) (inUse ws) = inUse ws
+usedBy (Walk.Finished w rs) outdated = outdated
 usedBy Walk.Off u = u
 
 -- the history with another word about one page
@@ -162,7 +172,7 @@ inUseAfter h (v ∷ vs) = inUseAfter (told h (v .tag) (usedBy (v .walk) (h (v .t
 -- "Storing counts even if the value is equal.", and one byte of a map word counts for the word
 unfoldable pub struck : ℕ → Use → Use
 struck at unused = unused
-struck at (inUse rs) = pick (among (evenOf at) rs) outdated (inUse rs)
+struck at (inUse ws) = pick (among (evenOf at) ws) outdated (inUse ws)
 struck at outdated = outdated
 
 -- "It is forgotten by INIT, a KTUM or KTEM store, or any of answers 4 to 9 with it as the page at fault."
@@ -180,9 +190,10 @@ heard h d = historyAfter (d .effect) (inUseAfter h (d .visits))
 
 -- The premises -----------------------------------------------------------------------------------------------------------
 
+-- "stored into since it came into use and not yet forgotten" (demand 3)
 unfoldable pub isOutdated : Use → Bool
 isOutdated unused = false
-isOutdated (inUse rs) = false
+isOutdated (inUse ws) = false
 isOutdated outdated = true
 
 -- demand 3: "no access goes to a page whose map words were stored into since it came into use and not yet forgotten"

@@ -93,6 +93,7 @@ userStarted c = record { ktcs = withModes (c .ktcs) 2 true (c .ktcs .iu); kept =
 unfoldable pub interrupted : Core → Core
 interrupted c = pick (c .ktcs .um) (serviceAwaited (c .ktcs) (c .kept)) (withKtcs c (withModes (c .ktcs) (c .ktcs .fcn) false false))
 
+-- "TRAP 104400-104777o"
 unfoldable pub isTrap : Kind → Bool
 isTrap Kind.Jsr = false
 isTrap Kind.Rts = false

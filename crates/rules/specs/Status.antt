@@ -13,8 +13,8 @@ bitOf b v = pick b v 0
 unfoldable pub bitIn : ℕ → ℕ → Bool
 bitIn w v = eqb (w / v % 2) 1
 
--- "KTCS (H): FCN bits 1-0, SS 2, DS 3, UM 4, IU 5, RV 11, PV 12, WV 13, AV 14, IV 15; others read 0." FCN is
--- taken by its two bits, whatever number it is.
+-- "KTCS (H): FCN bits 1-0, SS 2, DS 3, UM 4, IU 5, RV 11, PV 12, WV 13, AV 14, IV 15; others read 0.": FCN by its
+-- two bits, every other field by its one
 unfoldable pub packed : Ktcs → ℕ
 packed s =
     s .fcn % 4 + bitOf (s .ss) 0o4 + bitOf (s .ds) 0o10 + bitOf (s .um) 0o20 + bitOf (s .iu) 0o40 + bitOf (s .rv) 0o4000 + bitOf (s .pv) 0o10000

@@ -15,6 +15,7 @@ use Rattle.rules.specs.Fetched.{isFetch, isDato, kindOf}
 unfoldable pub listed : Access → Bool
 listed q = ltb (q .op) 4 && ltb (q .state) 5 && ltb (q .width) 2
 
+-- "a word DATI"
 unfoldable pub wordDati : Access → Bool
 wordDati q = eqb (q .op) 0 && eqb (q .width) 0
 

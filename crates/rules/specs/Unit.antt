@@ -25,6 +25,7 @@ emptyCell = record { tag = 0; word = 0 }
 unfoldable pub emptied : Cells → Cells
 emptied k = record { list = replicate (length (k .list)) emptyCell; counter = 0o10 }
 
+-- "INIT clears KTCS": all of it
 unfoldable pub clearKtcs : Ktcs
 clearKtcs =
     record { fcn = 0; ss = false; ds = false; um = false; iu = false; rv = false; pv = false; wv = false; av = false; iv = false }

@@ -138,7 +138,7 @@ pub const REGISTERS: [usize; 19] = [
     0o777636,
 ];
 
-// A register that core or map registers answer for: KTCS and those at 777600 to 777616 octal.
+// A register that the core or the map registers answer for: KTCS and those at 777600 to 777616 octal.
 pub enum Operating {
     Ktcs,
     // One of KTIC, KTSP, KTPC, KTPS, KTAD and KTDT, counted from KTIC.
@@ -169,7 +169,9 @@ pub enum Target {
 // What step 10 finds at a physical address.
 pub enum Place {
     There(Target),
+    // 777572 and 777573 octal, from which a paged access goes on.
     Window,
+    // At or beyond the end of memory, and no register.
     Nowhere,
 }
 
@@ -193,7 +195,7 @@ pub enum Reads {
 // What a walk of the maps comes to.
 pub enum Walk {
     // The map word, and where the words stand that were read for it.
-    Ended(u16, Reads),
+    Finished(u16, Reads),
     // A map word or pointer at or beyond the end of memory.
     Off,
 }

@@ -22,7 +22,7 @@ use Rattle.rules.proofs.Demand1.Why.{way}
 module _ (m : Memory) (r : Maps) (user : Bool) (p : ℕ) (k : Cells) (page : ℕ) where
   missed-page : (w : Walk) → missed k (tagOf user p) w .entry ≡ Entry.ExecZero page → page < 512
   unfolding missed entryOf
-  missed-page (Walk.Ended w rs) e = absurd (let z : _≡_ {A = ℕ} 0 1 = cc in omega arith)
+  missed-page (Walk.Finished w rs) e = absurd (let z : _≡_ {A = ℕ} 0 1 = cc in omega arith)
   missed-page Walk.Off e = absurd (let z : _≡_ {A = ℕ} 0 1 = cc in omega arith)
 
   sought-page : (x : Found) → soughtIn m r user p k x .entry ≡ Entry.ExecZero page → page < 512

@@ -219,7 +219,7 @@ module _ (user : Bool) (p : ℕ) (k : Cells) where
 
     missed-keeps : (tag : ℕ) (w : Walk) → Step6Keeps user p k (missed k tag w)
     unfolding missed entryOf filledBy
-    missed-keeps tag (Walk.Ended w rs) = filled-keeps tag w
+    missed-keeps tag (Walk.Finished w rs) = filled-keeps tag w
     missed-keeps tag Walk.Off = cells-same Entry.OffMap
 
   sought-keeps :

@@ -96,7 +96,7 @@ module _ (m : Memory) (r : Maps) (k : Cells) (h : History) (s : Sound m r k h) (
 
       filledBy-sound : (w : Walk) → walkOf m r user p ≡ w → Sound m r (filledBy k (tagOf user p) w) after
       unfolding filledBy
-      filledBy-sound (Walk.Ended a rs) e = filled-sound a (ap entryOf e ∙ unfold entryOf in refl)
+      filledBy-sound (Walk.Finished a rs) e = filled-sound a (ap entryOf e ∙ unfold entryOf in refl)
       filledBy-sound Walk.Off e = kept-sound
 
       sought :

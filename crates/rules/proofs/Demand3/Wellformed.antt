@@ -153,7 +153,7 @@ module _ (n : ℕ) where
 
       filledBy-fit : (w : Walk) → CellsFit n (filledBy k tag w)
       unfolding filledBy
-      filledBy-fit (Walk.Ended w rs) = filled-fit w
+      filledBy-fit (Walk.Finished w rs) = filled-fit w
       filledBy-fit Walk.Off = h
 
     looked-fit : (m : Memory) (r : Maps) (user : Bool) (p : ℕ) → p < 128 → CellsFit n (looked m r user p k .cells)

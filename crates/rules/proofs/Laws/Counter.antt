@@ -45,7 +45,7 @@ module _ (n : ℕ) where
 
   filledBy-names : (k : Cells) (tag : ℕ) (w : Walk) → NamesCell n k → NamesCell n (filledBy k tag w)
   unfolding filledBy
-  filledBy-names k tag (Walk.Ended w rs) h = filled-names k tag w h
+  filledBy-names k tag (Walk.Finished w rs) h = filled-names k tag w h
   filledBy-names k tag Walk.Off h = h
 
   sought-names :

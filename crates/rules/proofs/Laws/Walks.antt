@@ -66,7 +66,7 @@ pointedAt-even w = upperAt-even (low9 w) (high7 w)
 
 -- One walk is another, if the latter was finished and read nothing at this even address.
 abbrev pub Spared : ℕ → Walk → Walk → Type 0
-Spared e w w₁ = (v : ℕ) (rs : Reads) → w ≡ Walk.Ended v rs → among e (readsOf rs) ≡ false → w₁ ≡ w
+Spared e w w₁ = (v : ℕ) (rs : Reads) → w ≡ Walk.Finished v rs → among e (readsOf rs) ≡ false → w₁ ≡ w
 
 module _ (e : ℕ) (m n : Memory) (d : DifferAt e m n) where
   wordWalk-spared : (at : ℕ) → at % 2 ≡ 0 → Spared e (wordWalk m at) (wordWalk n at)
@@ -74,25 +74,25 @@ module _ (e : ℕ) (m n : Memory) (d : DifferAt e m n) where
   wordWalk-spared at even v rs f h = rw (d .lengths) (go (ltb at (length m)) f)
     where
       go :
-          (t : Bool) → pick t (Walk.Ended (wordAt m at) (Reads.Direct at)) Walk.Off ≡ Walk.Ended v rs
-          → pick t (Walk.Ended (wordAt n at) (Reads.Direct at)) Walk.Off ≡ pick t (Walk.Ended (wordAt m at) (Reads.Direct at)) Walk.Off
+          (t : Bool) → pick t (Walk.Finished (wordAt m at) (Reads.Direct at)) Walk.Off ≡ Walk.Finished v rs
+          → pick t (Walk.Finished (wordAt n at) (Reads.Direct at)) Walk.Off ≡ pick t (Walk.Finished (wordAt m at) (Reads.Direct at)) Walk.Off
       go true f =
           let same : rs ≡ Reads.Direct at = cc in
           let (k, _) = both-false (eqb e at) _ (sym (among-first e at []) ∙ rw same at h) in
-          ap (λ (w : ℕ). Walk.Ended w (Reads.Direct at)) (d .others at even (eqb-false e at k))
+          ap (λ (w : ℕ). Walk.Finished w (Reads.Direct at)) (d .others at even (eqb-false e at k))
       go false f = refl
 
   followed-spared :
-      (from at v : ℕ) (rs : Reads) → from % 2 ≡ 0 → at % 2 ≡ 0 → followed m from at ≡ Walk.Ended v rs → among e (readsOf rs) ≡ false
+      (from at v : ℕ) (rs : Reads) → from % 2 ≡ 0 → at % 2 ≡ 0 → followed m from at ≡ Walk.Finished v rs → among e (readsOf rs) ≡ false
       → (wordAt n from ≡ wordAt m from) × (followed n from at ≡ followed m from at)
   unfolding followed unlessOff readsOf pick
   followed-spared from at v rs even even₁ f h = rw (d .lengths) (go (ltb at (length m)) f)
     where
       ended : ℕ → Walk
-      ended w = Walk.Ended w (Reads.Pointed from at)
+      ended w = Walk.Finished w (Reads.Pointed from at)
 
       go :
-          (t : Bool) → pick t (ended (wordAt m at)) Walk.Off ≡ Walk.Ended v rs
+          (t : Bool) → pick t (ended (wordAt m at)) Walk.Off ≡ Walk.Finished v rs
           → (wordAt n from ≡ wordAt m from) × (pick t (ended (wordAt n at)) Walk.Off ≡ pick t (ended (wordAt m at)) Walk.Off)
       go true f =
           let same : rs ≡ Reads.Pointed from at = cc in
@@ -106,7 +106,7 @@ module _ (e : ℕ) (m n : Memory) (d : DifferAt e m n) where
   pointerWalk-spared from even v rs f h = rw (d .lengths) (go (ltb from (length m)) f)
     where
       go :
-          (t : Bool) → pick t (followed m from (pointedAt (wordAt m from))) Walk.Off ≡ Walk.Ended v rs
+          (t : Bool) → pick t (followed m from (pointedAt (wordAt m from))) Walk.Off ≡ Walk.Finished v rs
           → pick t (followed n from (pointedAt (wordAt n from))) Walk.Off ≡ pick t (followed m from (pointedAt (wordAt m from))) Walk.Off
       go true f =
           let (pointer, word) = followed-spared from (pointedAt (wordAt m from)) v rs even (pointedAt-even (wordAt m from)) f h in

@@ -1,5 +1,5 @@
--- The words of demand 3's premises, which specs/Runs.antt computes along a run, by the steps and the answer of each call. Proved in Goes.antt,
--- Reaches.antt and Histories.antt.
+-- The words of demand 3's premises, which specs/Runs.antt computes along a run, by the steps and the answer of each call: what is
+-- computed there is what 01's words say. Proved in Goes.antt, Reaches.antt and Histories.antt of the room Demand3.
 use mathlib.Core.Path.{_≡_}
 use mathlib.Core.Bool.{Bool, true, false}
 use mathlib.Core.List.{List, [], _++_}
@@ -16,9 +16,6 @@ use Rattle.rules.specs.Answers.{shown}
 use Rattle.rules.specs.Runs.{Visit, visit, deedOf, Use, unused, History, inUseAfter, struck, heard}
 use Rattle.rules.proofs.Promises.{job}
 use Rattle.rules.proofs.Statements.Ways.{Asked, InnerAsked, AtFault, operating}
-
--- The premises are computed along a run from what each call does (`meets` and `deedOf` of specs/Runs.antt). The statements up to the next line
--- say that this is what 01's words say, by the steps and the answer of the call.
 
 -- "A window's access goes to its outer page and, once reached, to its inner one.": an access goes to the page of its address where step 6 asks for
 -- that page's entry, and to a window's inner page where step 6 is come to again (`Asked` and `InnerAsked` of Ways.antt).
@@ -66,7 +63,7 @@ pub record OtherCallsIdle (m : Memory) (u : Unit) : Type 0 where
 abbrev pub OthersGoNowhere : Type 0
 OthersGoNowhere = (m : Memory) (u : Unit) → OtherCallsIdle m u
 
--- A store that is done, with its physical address at this target. (That a call is answered so is demand 1's matter.)
+-- A store that is done, whose physical address is that of this target. (That a call is answered so is demand 1's matter.)
 pub record StoreDone (m : Memory) (u : Unit) (q : Access) (at : ℕ) (t : Target) : Type 0 where
   pub answer : callOf m u (Call.Access q) .reply .answer ≡ Answer.Done 0 at
   pub operation : 1 < q .op
