@@ -1,10 +1,10 @@
 -- A unit stays a unit: no call of the rules makes words that are a unit into words that are refused.
-use Prim.Native.Nat.{ℕ, _/_, _<_}
-use mathlib.Core.Path.{_≡_, refl}
+use Prim.Native.Nat.{ℕ, _<_}
+use mathlib.Core.Path.{_≡_}
 use mathlib.Core.Bool.{Bool, true, false}
-use mathlib.Core.List.{List}
+use mathlib.Core.List.{List, [], _∷_}
 use native.Mathlib.Omega.{arith}
-use borrow.Author.Tests.{eq-eqb, lt-ltb}
+use borrow.Author.Tests.{eq-eqb, lt-ltb, le-leb}
 use Rattle.rules.specs.declared.Wait.{Wait}
 use Rattle.rules.specs.declared.Unit.{Unit}
 use Rattle.rules.specs.declared.Call.{Call}
@@ -14,7 +14,8 @@ use Rattle.rules.specs.Calls.{callOf}
 use Rattle.rules.proofs.Laws.StatusLaws.{packed-zeros}
 use Rattle.rules.proofs.Promises.{UnitFit}
 use Rattle.rules.proofs.Demand3.Ranges.{InRange, call-in-range}
-use Rattle.coding.specs.Coding.{waitNumber, flagNumber, isUnit, coreOf, listOf, decoded, coreWords, cellWords, cellsWords, coded}
+use Rattle.coding.specs.Coding.{lastWord, waitNumber, flagNumber, isUnit, coreOf, listOf, decoded, coreWords, cellsWords, coded}
+use Rattle.coding.proofs.Cells.{length-cells, behind-cells}
 use Rattle.coding.proofs.Laws.{UnitWords, unit-words}
 
 wait-small : (w : Wait) → waitNumber w < 4
@@ -31,12 +32,14 @@ flag-small false = omega arith
 
 -- a unit whose counts and counter are in their ranges is not refused for its words
 pub range-is-unit : (u : Unit) → InRange cellCount u → isUnit (coded u) ≡ true
-unfolding isUnit coded coreWords cellsWords cellWords
+unfolding isUnit coded coreWords cellsWords
 range-is-unit u h =
     let datos : u .core .fetch .datos < 3 = omega (arith, h .counts .datos) in
     let accesses : u .core .fetch .accesses < 3 = omega (arith, h .counts .accesses) in
-    let counter : u .cells .counter / 8 ≡ 1 = omega (arith, h .cells .from, h .cells .below) in
-    simp (eq-eqb _ 0 (packed-zeros (u .core .ktcs)), lt-ltb _ 4 (wait-small (u .core .wait)), lt-ltb _ 3 datos, lt-ltb _ 3 accesses, lt-ltb _ 2 (flag-small (u .core .fetch .public)), eq-eqb _ 1 counter)
+    let rest : List ℕ = u .cells .counter ∷ lastWord ∷ [] in
+    let counter = behind-cells cellCount (u .cells .list) rest 0 (h .cells .number) in
+    let last = behind-cells cellCount (u .cells .list) rest 1 (h .cells .number) in
+    simp (counter, last, eq-eqb _ 0 (packed-zeros (u .core .ktcs)), lt-ltb _ 4 (wait-small (u .core .wait)), lt-ltb _ 3 datos, lt-ltb _ 3 accesses, lt-ltb _ 2 (flag-small (u .core .fetch .public)), le-leb _ _ (h .cells .from), lt-ltb _ _ (h .cells .below))
 
 -- UnitFit holds of a fresh unit and after every call (`fresh-fit` and `call-fit` of the rules).
 pub fit-is-unit : (u : Unit) → UnitFit cellCount u → isUnit (coded u) ≡ true
@@ -54,7 +57,7 @@ decoded-in-range w is =
     let h : UnitWords w = unit-words w is in
     record {
       counts = record { datos = omega (arith, h .datos); accesses = omega (arith, h .accesses) };
-      cells = record { number = refl; from = omega (arith, h .counter); below = omega (arith, h .counter) };
+      cells = record { number = length-cells cellCount _; from = h .from; below = h .below };
     }
 
 -- so no call makes words that are a unit into words that are none

@@ -10,28 +10,43 @@ use rules::Wait;
 ghost use mathlib.Core.Path.{_≡_};
 ghost use mathlib.Core.List.{_++_};
 ghost use lib.ListN.{length, take, drop};
-ghost use Rattle.coding.specs.Coding.{unitWords, waitNumber, waitOf, flagNumber, isUnit, coreOf, mapsOf, listOf, decoded, coreWords, cellsWords, coded};
+ghost use Rattle.coding.specs.Coding.{coreCount, unitWords, waitNumber, waitOf, flagNumber, isUnit, coreOf, mapsOf, listOf, decoded, coreWords, cellsWords, coded};
+
+// How many words stand before the cells, which take two words each.
+const CORE_WORDS: usize = 16;
+
+// The places of the two words behind the cells: the counter and the last.
+const COUNTER_AT: usize = CORE_WORDS + 2 * CELLS;
+
+const LAST_AT: usize = COUNTER_AT + 1;
 
 // How many words a unit takes.
-pub const WORDS: usize = 34;
+pub const WORDS: usize = LAST_AT + 1;
 
 // The words at both ends, which never change.
 const FIRST: u16 = 0x544b;
 
 const LAST: u16 = 0x4231;
 
+// The numbers that name a cell, as the counter counts them: from the one to below the other.
+const FIRST_CELL: u16 = 0o10;
+
+const PAST_CELLS: u16 = FIRST_CELL + CELLS as u16;
+
 // The two ends, and every field that has fewer values than a word: this runs at every access, and branches once.
 pub fn is_unit(w: [u16; WORDS]) -> bool
     ensures { λ r. ⌜ r ≡ isUnit w ⌝ }
 {
+    let counter = w[COUNTER_AT];
     (w[0] == FIRST)
-        & (w[33] == LAST)
+        & (w[LAST_AT] == LAST)
         & (w[1] / 64 % 32 == 0)
         & (w[8] < 4)
         & (w[11] < 3)
         & (w[12] < 3)
         & (w[13] < 2)
-        & (w[32] / 8 == 1)
+        & (FIRST_CELL <= counter)
+        & (counter < PAST_CELLS)
 }
 
 pub fn wait_of(n: u16) -> Wait
@@ -85,42 +100,21 @@ pub fn core_of(w: [u16; WORDS]) -> Core
     }
 }
 
+// The count is fixed, so the compiler makes plain moves of this loop, as of the one that stores the cells.
 pub fn list_of(w: [u16; WORDS]) -> [Cell; CELLS]
     ensures { λ r. ⌜ r ≡ listOf w ⌝ }
 {
-    let a = Cell {
-        tag: w[16],
-        word: w[17],
-    };
-    let b = Cell {
-        tag: w[18],
-        word: w[19],
-    };
-    let c = Cell {
-        tag: w[20],
-        word: w[21],
-    };
-    let d = Cell {
-        tag: w[22],
-        word: w[23],
-    };
-    let e = Cell {
-        tag: w[24],
-        word: w[25],
-    };
-    let f = Cell {
-        tag: w[26],
-        word: w[27],
-    };
-    let g = Cell {
-        tag: w[28],
-        word: w[29],
-    };
-    let h = Cell {
-        tag: w[30],
-        word: w[31],
-    };
-    [a, b, c, d, e, f, g, h]
+    let mut list = [Cell { tag: 0, word: 0 }; CELLS];
+    let mut i = 0;
+    while i < CELLS {
+        let at = CORE_WORDS + 2 * i;
+        list[i] = Cell {
+            tag: w[at],
+            word: w[at + 1],
+        };
+        i += 1;
+    }
+    list
 }
 
 pub fn maps_of(w: [u16; WORDS]) -> Maps
@@ -138,7 +132,7 @@ pub fn decoded(w: [u16; WORDS]) -> Unit
     let list = list_of(w);
     let cells = Cells {
         list,
-        counter: w[32],
+        counter: w[COUNTER_AT],
     };
     Unit {
         core: core_of(w),
@@ -147,9 +141,9 @@ pub fn decoded(w: [u16; WORDS]) -> Unit
     }
 }
 
-// An end, the core and the map registers, in the first 16 of these words; the others stay. The words' number is their type's, and said for callers.
+// An end, the core and the map registers, in the words before the cells; the others stay. The words' number is their type's, and said for callers.
 pub fn with_core(w: [u16; WORDS], c: Core, r: Maps) -> [u16; WORDS]
-    ensures { λ o. ⌜ (o ≡ coreWords c r ++ drop 16 w) × (length w ≡ unitWords) ⌝ }
+    ensures { λ o. ⌜ (o ≡ coreWords c r ++ drop coreCount w) × (length w ≡ unitWords) ⌝ }
 {
     let kept = c.kept;
     let wait = c.wait;
@@ -173,30 +167,22 @@ pub fn with_core(w: [u16; WORDS], c: Core, r: Maps) -> [u16; WORDS]
     o
 }
 
-// The cells, the counter and the other end, in the last 18 of these words; the others stay.
-fn with_cells(w: [u16; WORDS], k: Cells) -> [u16; WORDS]
-    ensures { λ o. ⌜ o ≡ take 16 w ++ cellsWords k ⌝ }
+// The cells, the counter and the other end, in the words from the cells on; the others stay. The list comes by itself for its length, which
+// is known of an array and not of a field.
+fn with_cells(w: [u16; WORDS], list: [Cell; CELLS], counter: u16) -> [u16; WORDS]
+    ensures { λ o. ⌜ o ≡ take coreCount w ++ cellsWords (record { list = list; counter = counter }) ⌝ }
 {
-    let list = k.list;
     let mut o = w;
-    o[16] = list[0].tag;
-    o[17] = list[0].word;
-    o[18] = list[1].tag;
-    o[19] = list[1].word;
-    o[20] = list[2].tag;
-    o[21] = list[2].word;
-    o[22] = list[3].tag;
-    o[23] = list[3].word;
-    o[24] = list[4].tag;
-    o[25] = list[4].word;
-    o[26] = list[5].tag;
-    o[27] = list[5].word;
-    o[28] = list[6].tag;
-    o[29] = list[6].word;
-    o[30] = list[7].tag;
-    o[31] = list[7].word;
-    o[32] = k.counter;
-    o[33] = LAST;
+    let mut i = 0;
+    while i < CELLS {
+        let held = list[i];
+        let at = CORE_WORDS + 2 * i;
+        o[at] = held.tag;
+        o[at + 1] = held.word;
+        i += 1;
+    }
+    o[COUNTER_AT] = counter;
+    o[LAST_AT] = LAST;
     o
 }
 
@@ -206,5 +192,6 @@ pub fn coded(u: Unit) -> [u16; WORDS]
     let c = u.core;
     let r = u.maps;
     let k = u.cells;
-    with_cells(with_core([0; WORDS], c, r), k)
+    let list = k.list;
+    with_cells(with_core([0; WORDS], c, r), list, k.counter)
 }

@@ -18,7 +18,7 @@ use Rattle.rules.specs.declared.Access.{Access}
 use Rattle.rules.specs.Order.{accessed}
 use Rattle.rules.specs.Calls.{After, called, settled, callOf}
 use Rattle.rules.specs.Calls.{memoryAfter as effectOn}
-use Rattle.coding.specs.Coding.{isUnit, coreOf, listOf, decoded, coreWords, cellsWords, coded}
+use Rattle.coding.specs.Coding.{coreCount, unitWords, isUnit, coreOf, listOf, decoded, coreWords, cellsWords, coded}
 use Rattle.rules.proofs.Laws.Choices.{picked}
 use Rattle.coding.proofs.Laws.{cells-stay}
 use Rattle.coding.proofs.Stays.{unit-stays}
@@ -76,7 +76,7 @@ module _ (m : Memory) (w : List ℕ) (q : Access) (a : Attempt) (is : isUnit w �
   quick-reply n e = e ∙ sym (rw is (ap (λ (x : After). replyWord (shown (x .reply .answer))) quick-call))
 
   pub quick-words :
-      (o : List ℕ) → length w ≡ 34 → o ≡ coreWords (a .outcome .core) (decoded w .maps) ++ drop 16 w → o ≡ wordsAfter m w (Call.Access q)
+      (o : List ℕ) → length w ≡ unitWords → o ≡ coreWords (a .outcome .core) (decoded w .maps) ++ drop coreCount w → o ≡ wordsAfter m w (Call.Access q)
   unfolding wordsAfter coded pick
   quick-words o long e =
       e ∙ rw (cells-stay w long is) (sym (rw is (ap (λ (x : After). coreWords (x .reply .unit .core) (x .reply .unit .maps) ++ cellsWords (x .reply .unit .cells)) quick-call)))

@@ -5,6 +5,9 @@ use borrow.Author.Needs.{needs}
 use Rattle.coding.proofs.is_unit.Statement.{statement}
 use Rattle.coding.proofs.is_unit.Tie as tie
 
+array-read-counter : tie.Need-array-read-counter
+array-read-counter c = search needs
+
 array-read-result : tie.Need-array-read-result
 array-read-result c = search needs
 
@@ -26,9 +29,6 @@ array-read-result-6 c = search needs
 array-read-result-7 : tie.Need-array-read-result-7
 array-read-result-7 c = search needs
 
-array-read-result-8 : tie.Need-array-read-result-8
-array-read-result-8 c = search needs
-
 returns : tie.Need-returns
 unfolding isUnit
 returns c = refl
@@ -37,6 +37,7 @@ pub is-unit-spec : {M : Type 1} → statement M
 is-unit-spec =
     tie.close
     (tie.spec
+    array-read-counter
     array-read-result
     array-read-result-2
     array-read-result-3
@@ -44,5 +45,4 @@ is-unit-spec =
     array-read-result-5
     array-read-result-6
     array-read-result-7
-    array-read-result-8
     returns)

@@ -1,80 +1,68 @@
--- `coding::list_of` meets its contract.
-use mathlib.Core.Path.{refl}
-use Rattle.coding.specs.Coding.{listOf}
+-- Each cell in turn: the first i are read, and the others are still words.
+use Prim.Native.Nat.{_≤_, _-_}
+use mathlib.Core.Path.{_≡_, _∙_, sym}
+use lib.ListN.{length}
 use borrow.Author.Needs.{needs}
+use Rattle.rules.specs.Unit.{cellCount}
+use Rattle.coding.specs.Coding.{coreCount, listOf}
+use Rattle.coding.proofs.Passes.{reading, read-here, read-all}
 use Rattle.coding.proofs.list_of.Statement.{statement}
 use Rattle.coding.proofs.list_of.Tie as tie
 
-array-read-t13 : tie.Need-array-read-t13
-array-read-t13 c = search needs
+abbrev Inv-loop : tie.InvT-loop
+Inv-loop w list₀ i₀ list i =
+    (i ≤ cellCount) × (length list ≡ cellCount) × (reading cellCount coreCount w list i ≡ listOf w)
 
-array-read-t16 : tie.Need-array-read-t16
+abbrev μ-loop : tie.MeasureT-loop
+μ-loop w list₀ i₀ list i = cellCount - i
+
+loop-holds : tie.Need-loop-holds Inv-loop μ-loop
+unfolding listOf
+loop-holds c = search needs
+
+mul-at : tie.Need-mul-at Inv-loop μ-loop
+mul-at c = search needs
+
+add-at : tie.Need-add-at Inv-loop μ-loop
+add-at c = search needs
+
+mul-t8 : tie.Need-mul-t8 Inv-loop μ-loop
+mul-t8 c = search needs
+
+array-read-t11 : tie.Need-array-read-t11 Inv-loop μ-loop
+array-read-t11 c = search needs
+
+add-t12 : tie.Need-add-t12 Inv-loop μ-loop
+add-t12 c = search needs
+
+mul-t13 : tie.Need-mul-t13 Inv-loop μ-loop
+mul-t13 c = search needs
+
+array-read-t16 : tie.Need-array-read-t16 Inv-loop μ-loop
 array-read-t16 c = search needs
 
-array-read-t13-2 : tie.Need-array-read-t13-2
-array-read-t13-2 c = search needs
+mul-list : tie.Need-mul-list Inv-loop μ-loop
+mul-list c = search needs
 
-array-read-t16-2 : tie.Need-array-read-t16-2
-array-read-t16-2 c = search needs
+array-set-from-list : tie.Need-array-set-from-list Inv-loop μ-loop
+array-set-from-list c = search needs
 
-array-read-t13-3 : tie.Need-array-read-t13-3
-array-read-t13-3 c = search needs
+add-i : tie.Need-add-i Inv-loop μ-loop
+add-i c = search needs
 
-array-read-t16-3 : tie.Need-array-read-t16-3
-array-read-t16-3 c = search needs
+loop-less : tie.Need-loop-less Inv-loop μ-loop
+loop-less c = search needs
 
-array-read-t13-4 : tie.Need-array-read-t13-4
-array-read-t13-4 c = search needs
+loop-again : tie.Need-loop-again Inv-loop μ-loop
+loop-again c =
+    (search needs, search needs, read-here cellCount coreCount _ (c .before .loop .list) (c .before .loop .i) (search needs) (search needs) ∙ c .before .loop .inv .2)
 
-array-read-t16-4 : tie.Need-array-read-t16-4
-array-read-t16-4 c = search needs
-
-array-read-t13-5 : tie.Need-array-read-t13-5
-array-read-t13-5 c = search needs
-
-array-read-t16-5 : tie.Need-array-read-t16-5
-array-read-t16-5 c = search needs
-
-array-read-t13-6 : tie.Need-array-read-t13-6
-array-read-t13-6 c = search needs
-
-array-read-t16-6 : tie.Need-array-read-t16-6
-array-read-t16-6 c = search needs
-
-array-read-t13-7 : tie.Need-array-read-t13-7
-array-read-t13-7 c = search needs
-
-array-read-t16-7 : tie.Need-array-read-t16-7
-array-read-t16-7 c = search needs
-
-array-read-t13-8 : tie.Need-array-read-t13-8
-array-read-t13-8 c = search needs
-
-array-read-t16-8 : tie.Need-array-read-t16-8
-array-read-t16-8 c = search needs
-
-returns : tie.Need-returns
-unfolding listOf
-returns c = refl
+returns : tie.Need-returns Inv-loop μ-loop
+returns c = sym (read-all cellCount coreCount _ (c .before .loop .list) (c .before .loop .i) (search needs) (search needs)) ∙ c .before .loop .inv .2
 
 pub list-of-spec : {M : Type 1} → statement M
 list-of-spec =
     tie.close
     (tie.spec
-    array-read-t13
-    array-read-t16
-    array-read-t13-2
-    array-read-t16-2
-    array-read-t13-3
-    array-read-t16-3
-    array-read-t13-4
-    array-read-t16-4
-    array-read-t13-5
-    array-read-t16-5
-    array-read-t13-6
-    array-read-t16-6
-    array-read-t13-7
-    array-read-t16-7
-    array-read-t13-8
-    array-read-t16-8
-    returns)
+    Inv-loop μ-loop loop-holds mul-at add-at mul-t8 array-read-t11 add-t12 mul-t13 array-read-t16 mul-list
+    array-set-from-list add-i loop-less loop-again returns)

@@ -1,7 +1,6 @@
 -- `coding::with_core` meets its contract.
-use Rattle.coding.proofs.Fronts.{first-set}
-use mathlib.Core.Path.{_∙_, sym}
 use native.Mathlib.Omega.{arith}
+use lib.Seq.{sets-eq}
 use Rattle.coding.specs.Coding.{coreWords}
 use borrow.Author.Needs.{needs}
 use Rattle.coding.proofs.with_core.Statement.{statement}
@@ -84,11 +83,12 @@ array-write-o-16 c = search needs
 
 returns : tie.Need-returns
 unfolding coreWords
-returns c = (
-  first-set (c .before .before .before .before .args .w) (omega (arith, c .before .before .before .before .good)) _ _ _ _ _ _ _ _ _ _ _ _ _ _ _ _
-      ∙ simp (sym (c .flag-number .ensures), sym (c .before .wait-number .ensures), sym (c .before .before .packed .ensures)),
-  search needs,
-)
+returns c =
+    let at-start = c .before .before .before .before in (
+      simp (c .flag-number .ensures, c .before .wait-number .ensures, c .before .before .packed .ensures)
+          (sets-eq (coreWords (at-start .args .c) (at-start .args .r)) (at-start .args .w) 0 (omega (arith, at-start .good))),
+      search needs,
+    )
 
 pub with-core-spec : {M : Type 1} → statement M
 with-core-spec =

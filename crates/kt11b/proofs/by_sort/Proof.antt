@@ -5,7 +5,7 @@ use mathlib.Core.Bool.{true}
 use mathlib.Core.List.{_++_}
 use lib.ListN.{length, drop}
 use Rattle.rules.specs.declared.Maps.{Maps}
-use Rattle.coding.specs.Coding.{isUnit, decoded, coreWords}
+use Rattle.coding.specs.Coding.{coreCount, unitWords, isUnit, decoded, coreWords}
 use borrow.Author.Needs.{needs}
 use Rattle.kt11b.proofs.by_sort.Statement.{statement}
 use Rattle.kt11b.proofs.by_sort.Tie as tie
@@ -48,11 +48,11 @@ returns c =
     let w = at-start .args .unit .now in
     let q = at-start .args .q in
     let is : isUnit w ≡ true = sym (c .before .before .before .before .before .before .before .before .before .before .before .before .before .before .before .before .before .is-unit .ensures) ∙ c .before .before .before .before .before .before .before .before .before .before .before .before .before .before .before .before .if1 .taken in
-    let long : length w ≡ 34 = c .before .with-core .ensures .1 in
+    let long : length w ≡ unitWords = c .before .with-core .ensures .1 in
     let yes = sym (c .before .before .before .before .before .before .before .before .before .before .before .before .before .before .usual .ensures) ∙ c .before .before .before .before .before .before .before .before .before .before .before .before .before .if2 .taken in
     let s = owed-at m w q _ _ _ (c .before .before .before .before .before .before .before .before .before .before .before .before .before .before .before .core-of .ensures) (c .before .before .before .before .before .before .before .before .before .before .before .before .list-of .ensures) yes (c .before .before .before .before .before .before .before .before .before .before .attempted .ensures) in
     let over = c .before .before .before .before .before .before .before .before .before .if3 .taken in (
-      quick-words m w q _ is s over _ long (c .before .with-core .ensures .0 ∙ ap (λ (r : Maps). coreWords (c .before .before .before .before .before .before .before .before .before .before .attempted .result .outcome .core) r ++ drop 16 w) (c .before .before .maps-of .ensures)),
+      quick-words m w q _ is s over _ long (c .before .with-core .ensures .0 ∙ ap (λ (r : Maps). coreWords (c .before .before .before .before .before .before .before .before .before .before .attempted .result .outcome .core) r ++ drop coreCount w) (c .before .before .maps-of .ensures)),
       (quick-memory m w q _ is s over _ (c .before .before .before .before .before .before .store .ensures), quick-reply m w q _ is s over _ (c .replied .ensures)),
     )
 
