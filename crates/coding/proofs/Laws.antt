@@ -23,7 +23,7 @@ use Rattle.coding.proofs.Cells.{cells-there, cells-back, behind-cells}
 pub record UnitWords (w : List ℕ) : Type 0 where
   pub first : getD w 0 0 ≡ firstWord
   pub last : getD w lastPlace 0 ≡ lastWord
-  pub ktcs : getD w 1 0 / 64 % 32 ≡ 0
+  pub ktcs : getD w 1 0 / 0o100 % 0o40 ≡ 0
   pub wait : getD w 8 0 < 4
   pub datos : getD w 11 0 < 3
   pub accesses : getD w 12 0 < 3
@@ -96,7 +96,7 @@ cells-stay w long is =
     rw (← unit-words w is .last, ← behind) (sym (cells-back cellCount (drop coreCount w) (omega (arith, length-drop coreCount w))))
 
 -- Words that are a unit are the code of what they decode to. The bound, too, is that of the words' type.
-pub coded-decoded : (w : List ℕ) → length w ≡ unitWords → getD w 1 0 < 65536 → isUnit w ≡ true → coded (decoded w) ≡ w
+pub coded-decoded : (w : List ℕ) → length w ≡ unitWords → getD w 1 0 < 0o200000 → isUnit w ≡ true → coded (decoded w) ≡ w
 unfolding coded decoded coreOf mapsOf coreWords elements
 coded-decoded w long small is =
     let u = unit-words w is in

@@ -65,7 +65,7 @@ flagNumber false = 0
 -- names a cell.
 unfoldable pub isUnit : List ℕ → Bool
 isUnit w =
-    eqb (getD w 0 0) firstWord && eqb (getD w lastPlace 0) lastWord && eqb (getD w 1 0 / 64 % 32) 0 && ltb (getD w 8 0) 4
+    eqb (getD w 0 0) firstWord && eqb (getD w lastPlace 0) lastWord && eqb (getD w 1 0 / 0o100 % 0o40) 0 && ltb (getD w 8 0) 4
     && ltb (getD w 11 0) 3 && ltb (getD w 12 0) 3 && ltb (getD w 13 0) 2 && leb 0o10 (getD w counterPlace 0)
     && ltb (getD w counterPlace 0) (0o10 + cellCount)
 

@@ -40,7 +40,7 @@ pub fn is_unit(w: [u16; WORDS]) -> bool
     let counter = w[COUNTER_AT];
     (w[0] == FIRST)
         & (w[LAST_AT] == LAST)
-        & (w[1] / 64 % 32 == 0)
+        & (w[1] / 0o100 % 0o40 == 0)
         & (w[8] < 4)
         & (w[11] < 3)
         & (w[12] < 3)

@@ -29,27 +29,27 @@ eqb-one true n h = eq-eqb n 1 h
 eqb-one false n h = ne-eqb n 1 (λ e. omega arith)
 
 packed-sum : (s : Ktcs) →
-    packed s ≡ s .fcn % 4 + 4 * one (s .ss) + 8 * one (s .ds) + 16 * one (s .um) + 32 * one (s .iu) + 2048 * one (s .rv)
-    + 4096 * one (s .pv) + 8192 * one (s .wv) + 16384 * one (s .av) + 32768 * one (s .iv)
+    packed s ≡ s .fcn % 4 + 0o4 * one (s .ss) + 0o10 * one (s .ds) + 0o20 * one (s .um) + 0o40 * one (s .iu) + 0o4000 * one (s .rv)
+    + 0o10000 * one (s .pv) + 0o20000 * one (s .wv) + 0o40000 * one (s .av) + 0o100000 * one (s .iv)
 unfolding packed
 packed-sum s = simp bitOf-one
 
 -- the digits of such a sum, the bits being 0 or 1 and f below 4: what `unpacked` takes out
 digits :
     (f a b c d e g h k l x : ℕ) → f < 4 → a ≤ 1 → b ≤ 1 → c ≤ 1 → d ≤ 1 → e ≤ 1 → g ≤ 1 → h ≤ 1 → k ≤ 1 → l ≤ 1 →
-    x ≡ f + 4 * a + 8 * b + 16 * c + 32 * d + 2048 * e + 4096 * g + 8192 * h + 16384 * k + 32768 * l →
-    (x % 4 ≡ f) × (x / 4 % 2 ≡ a) × (x / 8 % 2 ≡ b) × (x / 16 % 2 ≡ c) × (x / 32 % 2 ≡ d) × (x / 2048 % 2 ≡ e) × (x / 4096 % 2 ≡ g)
-    × (x / 8192 % 2 ≡ h) × (x / 16384 % 2 ≡ k) × (x / 32768 % 2 ≡ l)
+    x ≡ f + 0o4 * a + 0o10 * b + 0o20 * c + 0o40 * d + 0o4000 * e + 0o10000 * g + 0o20000 * h + 0o40000 * k + 0o100000 * l →
+    (x % 4 ≡ f) × (x / 0o4 % 2 ≡ a) × (x / 0o10 % 2 ≡ b) × (x / 0o20 % 2 ≡ c) × (x / 0o40 % 2 ≡ d) × (x / 0o4000 % 2 ≡ e) × (x / 0o10000 % 2 ≡ g)
+    × (x / 0o20000 % 2 ≡ h) × (x / 0o40000 % 2 ≡ k) × (x / 0o100000 % 2 ≡ l)
 digits f a b c d e g h k l x hf ha hb hc hd he hg hh hk hl hx = omega arith
 
 between-zero :
     (f a b c d e g h k l x : ℕ) → f < 4 → a ≤ 1 → b ≤ 1 → c ≤ 1 → d ≤ 1
-    → x ≡ f + 4 * a + 8 * b + 16 * c + 32 * d + 2048 * e + 4096 * g + 8192 * h + 16384 * k + 32768 * l
-    → x / 64 % 32 ≡ 0
+    → x ≡ f + 0o4 * a + 0o10 * b + 0o20 * c + 0o40 * d + 0o4000 * e + 0o10000 * g + 0o20000 * h + 0o40000 * k + 0o100000 * l
+    → x / 0o100 % 0o40 ≡ 0
 between-zero f a b c d e g h k l x hf ha hb hc hd hx = omega arith
 
 -- "others read 0": bits 10 to 6
-pub packed-zeros : (s : Ktcs) → packed s / 64 % 32 ≡ 0
+pub packed-zeros : (s : Ktcs) → packed s / 0o100 % 0o40 ≡ 0
 packed-zeros s =
     between-zero (s .fcn % 4) (one (s .ss)) (one (s .ds)) (one (s .um)) (one (s .iu)) (one (s .rv)) (one (s .pv)) (one (s .wv)) (one (s .av)) (one (s .iv)) (packed s)
     (omega arith) (one-small (s .ss)) (one-small (s .ds)) (one-small (s .um)) (one-small (s .iu)) (packed-sum s)
@@ -63,15 +63,15 @@ unpacked-packed s small =
     λ i.
     record {
       fcn = fcn-same (d .0) i;
-      ss = eqb-one (s .ss) (packed s / 4 % 2) (d .1) i;
-      ds = eqb-one (s .ds) (packed s / 8 % 2) (d .2) i;
-      um = eqb-one (s .um) (packed s / 16 % 2) (d .3) i;
-      iu = eqb-one (s .iu) (packed s / 32 % 2) (d .4) i;
-      rv = eqb-one (s .rv) (packed s / 2048 % 2) (d .5) i;
-      pv = eqb-one (s .pv) (packed s / 4096 % 2) (d .6) i;
-      wv = eqb-one (s .wv) (packed s / 8192 % 2) (d .7) i;
-      av = eqb-one (s .av) (packed s / 16384 % 2) (d .8) i;
-      iv = eqb-one (s .iv) (packed s / 32768 % 2) (d .9) i;
+      ss = eqb-one (s .ss) (packed s / 0o4 % 2) (d .1) i;
+      ds = eqb-one (s .ds) (packed s / 0o10 % 2) (d .2) i;
+      um = eqb-one (s .um) (packed s / 0o20 % 2) (d .3) i;
+      iu = eqb-one (s .iu) (packed s / 0o40 % 2) (d .4) i;
+      rv = eqb-one (s .rv) (packed s / 0o4000 % 2) (d .5) i;
+      pv = eqb-one (s .pv) (packed s / 0o10000 % 2) (d .6) i;
+      wv = eqb-one (s .wv) (packed s / 0o20000 % 2) (d .7) i;
+      av = eqb-one (s .av) (packed s / 0o40000 % 2) (d .8) i;
+      iv = eqb-one (s .iv) (packed s / 0o100000 % 2) (d .9) i;
     }
   where
     fcn-same : packed s % 4 ≡ s .fcn % 4 → packed s % 4 ≡ s .fcn
@@ -109,17 +109,17 @@ summed w f a b c d e g h k l q₂ q₃ q₄ q₅ q₆ q₁₁ q₁₂ q₁₃ q�
 by-four : (w : ℕ) → w ≡ w % 4 + 4 * (w / 4)
 by-four w = omega arith
 
-none-between : (w : ℕ) → w / 64 % 32 ≡ 0 → 64 * (w / 64) ≡ 2048 * (w / 2048)
+none-between : (w : ℕ) → w / 0o100 % 0o40 ≡ 0 → 0o100 * (w / 0o100) ≡ 0o4000 * (w / 0o4000)
 none-between w zeros = omega arith
 
-none-past : (w : ℕ) → w < 65536 → 65536 * (w / 65536) ≡ 0
+none-past : (w : ℕ) → w < 0o200000 → 0o200000 * (w / 0o200000) ≡ 0
 none-past w small = omega arith
 
 -- Back and there: a word in which only KTCS's own bits stand is what its fields pack into. Bits 10 to 6 "read 0".
-pub packed-unpacked : (w : ℕ) → w < 65536 → w / 64 % 32 ≡ 0 → packed (unpacked w) ≡ w
+pub packed-unpacked : (w : ℕ) → w < 0o200000 → w / 0o100 % 0o40 ≡ 0 → packed (unpacked w) ≡ w
 unfolding unpacked bitIn
 packed-unpacked w small zeros =
     packed-sum (unpacked w)
     ∙ simp (one-mod-2, four-twice)
-    (summed w _ _ _ _ _ _ _ _ _ _ _ _ _ _ _ _ _ _ _ _ _ (by-four w) (halves w 4) (halves w 8) (halves w 16) (halves w 32)
-    (none-between w zeros) (halves w 2048) (halves w 4096) (halves w 8192) (halves w 16384) (halves w 32768) (none-past w small))
+    (summed w _ _ _ _ _ _ _ _ _ _ _ _ _ _ _ _ _ _ _ _ _ (by-four w) (halves w 0o4) (halves w 0o10) (halves w 0o20) (halves w 0o40)
+    (none-between w zeros) (halves w 0o4000) (halves w 0o10000) (halves w 0o20000) (halves w 0o40000) (halves w 0o100000) (none-past w small))
