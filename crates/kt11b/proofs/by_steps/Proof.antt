@@ -1,15 +1,12 @@
 -- `kt11b::by_steps` meets its contract.
-use mathlib.Core.Path.{sym, _∙_}
-use Rattle.kt11b.proofs.Calls.{unit-words, unit-reply, unit-memory, stay-words, stay-memory, stay-reply}
+use mathlib.Core.Path.{ap, _∙_}
+use Rattle.rules.specs.declared.Reply.{Reply}
+use Rattle.rules.specs.Answers.{shown}
+use Rattle.coding.specs.Coding.{coded}
+use Rattle.replies.specs.Replies.{replyWord}
 use borrow.Author.Needs.{needs}
 use Rattle.kt11b.proofs.by_steps.Statement.{statement}
 use Rattle.kt11b.proofs.by_steps.Tie as tie
-
-is-unit-requires : tie.Need-is-unit-requires
-is-unit-requires c κs = search needs
-
-decoded-requires : tie.Need-decoded-requires
-decoded-requires c κs = search needs
 
 access-requires : tie.Need-access-requires
 access-requires c κs = search needs
@@ -21,29 +18,11 @@ same-length : tie.Need-same-length
 same-length c = search needs
 
 returns : tie.Need-returns
-returns c = (
-  unit-words _ _ _ _ _ (sym (c .before .before .before .before .before .before .before .before .is-unit .ensures) ∙ c .before .before .before .before .before .before .before .if1 .taken) (c .before .before .before .before .before .before .decoded .ensures) (c .before .before .before .before .access .ensures .0) _ (c .put-back .ensures .0),
-  (
-    unit-memory _ _ _ _ _ (sym (c .before .before .before .before .before .before .before .before .is-unit .ensures) ∙ c .before .before .before .before .before .before .before .if1 .taken) (c .before .before .before .before .before .before .decoded .ensures) (c .before .before .before .before .access .ensures .1),
-    unit-reply _ _ _ _ _ (sym (c .before .before .before .before .before .before .before .before .is-unit .ensures) ∙ c .before .before .before .before .before .before .before .if1 .taken) (c .before .before .before .before .before .before .decoded .ensures) (c .before .before .before .before .access .ensures .0) _ (c .put-back .ensures .1),
-  ),
-)
-
-no-unit-requires : tie.Need-no-unit-requires
-no-unit-requires c κs = search needs
-
-returns-2 : tie.Need-returns-2
-returns-2 c = (stay-words _ _ _ (sym (c .before .before .is-unit .ensures) ∙ c .before .if1 .left), (stay-memory _ _ _ (sym (c .before .before .is-unit .ensures) ∙ c .before .if1 .left), stay-reply _ _ _ _ (sym (c .before .before .is-unit .ensures) ∙ c .before .if1 .left) (c .no-unit .ensures)))
+returns c =
+    let called = c .before .before .before .before .access .ensures in (
+      c .put-back .ensures .0 ∙ ap (λ (r : Reply). coded (r .unit)) (called .0),
+      (called .1, c .put-back .ensures .1 ∙ ap (λ (r : Reply). replyWord (shown (r .answer))) (called .0)),
+    )
 
 pub by-steps-spec : {M : Type 1} → statement M
-by-steps-spec =
-    tie.close
-    (tie.spec
-    is-unit-requires
-    decoded-requires
-    access-requires
-    put-back-requires
-    same-length
-    returns
-    no-unit-requires
-    returns-2)
+by-steps-spec = tie.close (tie.spec access-requires put-back-requires same-length returns)
