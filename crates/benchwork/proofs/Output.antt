@@ -9,11 +9,11 @@ use lib.ListN.{set}
 use borrow.Author.Tests.{ne-eqb, ltb-false}
 use Rattle.rules.specs.Choice.{pick}
 use Rattle.rules.specs.Memory.{Memory}
-use Rattle.linetext.specs.declared.gather.Gather.{Gather}
-use Rattle.linetext.specs.Cut.{onto}
-use Rattle.linetext.specs.Gather.{nothingYet, pushOf, pushAll, gathered}
+use Rattle.fieldtext.specs.Cut.{onto}
 use Rattle.linetext.specs.Line.{lineOf}
-use Rattle.linetext.proofs.Whole.{whole}
+use Rattle.gathering.specs.declared.Gather.{Gather}
+use Rattle.gathering.specs.Gather.{nothingYet, pushOf, pushAll, gathered}
+use Rattle.gathering.proofs.Whole.{whole}
 use Rattle.rowtext.specs.Row.{headerOf}
 use Rattle.benchwork.specs.declared.Bench.{Bench}
 use Rattle.benchwork.specs.declared.Progress.{Progress}

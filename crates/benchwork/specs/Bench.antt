@@ -14,8 +14,8 @@ use Rattle.rules.specs.Memory.{Memory, storeWord}
 use Rattle.rules.specs.Status.{packed}
 use Rattle.rules.specs.Answers.{shown}
 use Rattle.rules.specs.Calls.{After, callOf}
-use Rattle.linetext.specs.declared.line.Fields.{Fields}
-use Rattle.linetext.specs.declared.line.Line.{Line}
+use Rattle.linetext.specs.declared.Fields.{Fields}
+use Rattle.linetext.specs.declared.Line.{Line}
 use Rattle.rowtext.specs.declared.Text.{Text}
 use Rattle.rowtext.specs.declared.Printed.{Printed}
 use Rattle.rowtext.specs.Row.{rowOf, badOf}

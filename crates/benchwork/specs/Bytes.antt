@@ -4,7 +4,7 @@ use mathlib.Core.List.{List, [], _∷_, _++_}
 use lib.Dec.{eqb}
 use Rattle.rules.specs.Choice.{pick}
 use Rattle.rules.specs.Memory.{Memory}
-use Rattle.linetext.specs.Gather.{nothingYet, pushOf, lineIn}
+use Rattle.gathering.specs.Gather.{nothingYet, pushOf, lineIn}
 use Rattle.benchwork.specs.declared.Progress.{Progress}
 use Rattle.benchwork.specs.Bench.{Done, lineDone}
 use Rattle.benchwork.specs.Whole.{freshBench}

@@ -6,7 +6,7 @@ use lib.Dec.{eqb}
 use Rattle.rules.specs.Choice.{pick}
 use Rattle.rules.specs.Memory.{Memory}
 use Rattle.rules.specs.Calls.{fresh}
-use Rattle.linetext.specs.Cut.{onto}
+use Rattle.fieldtext.specs.Cut.{onto}
 use Rattle.linetext.specs.Line.{lineOf}
 use Rattle.rowtext.specs.Row.{headerOf}
 use Rattle.benchwork.specs.declared.Bench.{Bench}

@@ -1,8 +1,7 @@
 // The bench program's work, from bytes of input to bytes of output; reading and writing are left to the program.
-use linetext::gather;
-use linetext::gather::Gather;
-use linetext::line::Fields;
-use linetext::line::Line;
+use gathering::Gather;
+use linetext::Fields;
+use linetext::Line;
 use rowtext::Text;
 use rules::Access;
 use rules::Answer;
@@ -155,7 +154,7 @@ pub fn start() -> Progress
     };
     Progress {
         bench,
-        gather: gather::nothing(),
+        gather: gathering::nothing(),
     }
 }
 
@@ -168,18 +167,18 @@ pub fn step(s: Progress, m: &mut [u8], byte: u8) -> Said
     let bench = s.bench;
     let held = s.gather;
     if byte == b'\n' {
-        let told = line(bench, m, gather::line_in(held));
+        let told = line(bench, m, gathering::line_in(held));
         let after = told.bench;
         let text = told.text;
         let progress = Progress {
             bench: after,
-            gather: gather::nothing(),
+            gather: gathering::nothing(),
         };
         return Said { progress, text };
     }
     let progress = Progress {
         bench,
-        gather: gather::push(held, byte),
+        gather: gathering::push(held, byte),
     };
     Said {
         progress,
@@ -196,6 +195,6 @@ pub fn end(s: Progress, m: &mut [u8]) -> Text
     if held.len == 0 {
         return nothing_said();
     }
-    let told = line(bench, m, gather::line_in(held));
+    let told = line(bench, m, gathering::line_in(held));
     told.text
 }

@@ -11,14 +11,14 @@ use lib.ListN.{length, getD, drop, take}
 use lib.Dec.{ltb, eqb, eqb·suc-zero, eqb·zero-suc, eqb·suc-suc}
 use lib.Seq.{getD-drop, drop-drop, getD-take}
 use borrow.Author.Tests.{ne-eqb}
-use Rattle.linetext.specs.Cut.{headOf, fieldsAt, none}
-use Rattle.linetext.specs.Number.{isNumber, worth}
+use Rattle.fieldtext.specs.Cut.{headOf, fieldsAt, none}
+use Rattle.fieldtext.specs.Number.{isNumber, worth}
+use Rattle.fieldtext.specs.Reading.{Took}
+use Rattle.fieldtext.specs.declared.Reading.{Reading}
+use Rattle.fieldtext.proofs.Scan.{fields-split, head-take, none-left}
+use Rattle.fieldtext.proofs.Digits.{and-left, and-right}
 use Rattle.linetext.specs.Line.{allNumbers, numbers, byLetter, byName, fromFields, lineOf}
-use Rattle.linetext.specs.Reading.{Took}
-use Rattle.linetext.specs.declared.line.Line.the-variants.{Bad}
-use Rattle.linetext.specs.declared.field.Reading.{Reading}
-use Rattle.linetext.proofs.Scan.{fields-split, head-take, none-left}
-use Rattle.linetext.proofs.Octal.{and-left, and-right}
+use Rattle.linetext.specs.declared.Line.the-variants.{Bad}
 
 -- n numbers and no field more, as the code finds it out
 pub good : ℕ → List (List ℕ) → Bool

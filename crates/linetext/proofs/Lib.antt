@@ -1,8 +1,4 @@
--- Laws that several proofs cite.
-pub mod Scan
-pub mod Octal
-pub mod Read
+-- Laws that several proofs cite, and lines worked by the definition.
 pub mod Chain
 pub mod Lines
-pub mod Whole
 pub mod Worked

@@ -6,11 +6,11 @@ use mathlib.Core.List.{List}
 use native.Mathlib.Omega.{arith}
 use lib.Dec.{eqb}
 use Rattle.rules.specs.Choice.{pick}
-use Rattle.linetext.specs.Cut.{fieldsAt, none}
+use Rattle.fieldtext.specs.Cut.{fieldsAt, none}
+use Rattle.fieldtext.specs.Reading.{Took}
+use Rattle.fieldtext.specs.declared.Reading.{Reading}
 use Rattle.linetext.specs.Line.{numbers, storeOf, accessOf, trapOf}
-use Rattle.linetext.specs.Reading.{Took}
-use Rattle.linetext.specs.declared.line.Line.the-variants.{Store, Access, Trap, Bad}
-use Rattle.linetext.specs.declared.field.Reading.{Reading}
+use Rattle.linetext.specs.declared.Line.the-variants.{Store, Access, Trap, Bad}
 use Rattle.linetext.proofs.Chain.{Chain, chain-start, chain-more, chain-value, chain-end}
 
 -- before the first number

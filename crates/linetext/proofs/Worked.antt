@@ -6,11 +6,11 @@ use Prim.Native.String.{String, [] as []ˢ, _∷_ as _∷ˢ_}
 use mathlib.Core.Path.{_≡_, refl}
 use mathlib.Core.List.{List, [], _∷_}
 use lib.ListN.{length}
-use Rattle.linetext.specs.Cut.{fields, onto}
-use Rattle.linetext.specs.Number.{octalDigit, allOctal, worthFrom, worth, isNumber}
+use Rattle.fieldtext.specs.Cut.{fields, onto}
+use Rattle.fieldtext.specs.Number.{octalDigit, allOctal, worthFrom, worth, isNumber}
 use Rattle.linetext.specs.Line.{allNumbers, numbers, storeOf, accessOf, trapOf, aloneOf, byLetter, byName, fromFields, lineOf}
-use Rattle.linetext.specs.declared.line.Line.{Line}
-use Rattle.linetext.specs.declared.line.Line.the-variants.{Store, Access, Interrupt, Trap, Init, Bad}
+use Rattle.linetext.specs.declared.Line.{Line}
+use Rattle.linetext.specs.declared.Line.the-variants.{Store, Access, Interrupt, Trap, Init, Bad}
 
 -- what the bytes of a text ask for
 asks : String → Line

@@ -1,6 +1,2 @@
 -- The definitions that the contracts cite.
-pub mod Cut
-pub mod Number
 pub mod Line
-pub mod Reading
-pub mod Gather

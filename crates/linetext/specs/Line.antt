@@ -5,10 +5,10 @@ use mathlib.Core.List.{List, [], _∷_}
 use lib.ListN.{length, getD}
 use lib.Dec.{eqb}
 use Rattle.rules.specs.Choice.{pick}
-use Rattle.linetext.specs.Cut.{fields}
-use Rattle.linetext.specs.Number.{isNumber, worth}
-use Rattle.linetext.specs.declared.line.Line.{Line}
-use Rattle.linetext.specs.declared.line.Line.the-variants.{Store, Access, Interrupt, Trap, Init, Bad}
+use Rattle.fieldtext.specs.Cut.{fields}
+use Rattle.fieldtext.specs.Number.{isNumber, worth}
+use Rattle.linetext.specs.declared.Line.{Line}
+use Rattle.linetext.specs.declared.Line.the-variants.{Store, Access, Interrupt, Trap, Init, Bad}
 
 unfoldable pub allNumbers : List (List ℕ) → Bool
 allNumbers [] = true

@@ -1,0 +1,4 @@
+-- The definitions that the contracts cite.
+pub mod Cut
+pub mod Number
+pub mod Reading

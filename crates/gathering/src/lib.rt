@@ -1,0 +1,52 @@
+// Lines gathered from the input byte by byte. No good line has more than 36 bytes, so 40 are enough to tell what a line asks for.
+use linetext::Line;
+ghost use mathlib.Core.Path.{_≡_};
+ghost use Rattle.gathering.specs.Gather.{nothingYet, pushOf, lineIn};
+
+// The bytes of a line so far: the first `len` of `buf`, or more than it holds.
+pub struct Gather {
+    pub buf: [u8; 40],
+    pub len: usize,
+    pub over: bool,
+}
+
+// No byte of a line yet.
+pub fn nothing() -> Gather
+    ensures { λ r. ⌜ r ≡ nothingYet ⌝ }
+{
+    Gather {
+        buf: [0u8; 40],
+        len: 0,
+        over: false,
+    }
+}
+
+// One more byte of the line, which is no newline. A byte that finds no room marks the line and is dropped.
+pub fn push(g: Gather, b: u8) -> Gather
+    ensures { λ r. ⌜ r ≡ pushOf g b ⌝ }
+{
+    let at = g.len;
+    let mut out = g;
+    if at < 40 {
+        out.buf[at] = b;
+        out.len = at + 1;
+        return out;
+    }
+    out.over = true;
+    out
+}
+
+// What the gathered line asks for.
+pub fn line_in(g: Gather) -> Line
+    ensures { λ r. ⌜ r ≡ lineIn g ⌝ }
+{
+    if g.over {
+        return Line::Bad;
+    }
+    let len = g.len;
+    let buf = g.buf;
+    if 40 < len {
+        return Line::Bad;
+    }
+    linetext::parse(&buf[..len])
+}
