@@ -15,9 +15,9 @@ use Rattle.gathering.specs.declared.Gather.{Gather}
 use Rattle.gathering.specs.Gather.{nothingYet, pushOf, pushAll, gathered}
 use Rattle.gathering.proofs.Whole.{whole}
 use Rattle.rowtext.specs.Row.{headerOf}
-use Rattle.benchwork.specs.declared.Bench.{Bench}
+use Rattle.tally.specs.declared.Bench.{Bench}
+use Rattle.benchline.specs.Bench.{Done, lineDone}
 use Rattle.benchwork.specs.declared.Progress.{Progress}
-use Rattle.benchwork.specs.Bench.{Done, lineDone}
 use Rattle.benchwork.specs.Whole.{linesOf, printed, benchMemory, freshBench, outputOf}
 use Rattle.benchwork.specs.Bytes.{Stepped, freshProgress, lineEnded, byteAdded, stepped, ended, printedFrom}
 

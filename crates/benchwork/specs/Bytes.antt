@@ -5,8 +5,8 @@ use lib.Dec.{eqb}
 use Rattle.rules.specs.Choice.{pick}
 use Rattle.rules.specs.Memory.{Memory}
 use Rattle.gathering.specs.Gather.{nothingYet, pushOf, lineIn}
+use Rattle.benchline.specs.Bench.{Done, lineDone}
 use Rattle.benchwork.specs.declared.Progress.{Progress}
-use Rattle.benchwork.specs.Bench.{Done, lineDone}
 use Rattle.benchwork.specs.Whole.{freshBench}
 
 -- what a byte leaves, and what it prints

@@ -1,4 +1,3 @@
 -- The definitions that the contracts cite.
-pub mod Bench
 pub mod Whole
 pub mod Bytes

@@ -9,8 +9,8 @@ use Rattle.rules.specs.Calls.{fresh}
 use Rattle.fieldtext.specs.Cut.{onto}
 use Rattle.linetext.specs.Line.{lineOf}
 use Rattle.rowtext.specs.Row.{headerOf}
-use Rattle.benchwork.specs.declared.Bench.{Bench}
-use Rattle.benchwork.specs.Bench.{lineDone}
+use Rattle.tally.specs.declared.Bench.{Bench}
+use Rattle.benchline.specs.Bench.{lineDone}
 
 -- each newline, byte 10, ends a line; a last line without one counts
 unfoldable pub linesOf : List ℕ → List (List ℕ)

@@ -5,6 +5,7 @@ ghost use mathlib.Core.Bool.{true};
 ghost use Rattle.fieldtext.specs.Cut.{fieldsAt};
 ghost use Rattle.fieldtext.specs.Reading.{Took};
 ghost use Rattle.linetext.specs.Line.{lineOf, storeOf, accessOf, trapOf, aloneOf, byLetter};
+ghost use Rattle.linetext.specs.Asked.{accessIn};
 
 // `A` operation state width address data, as the line has them.
 pub struct Fields {
@@ -116,4 +117,17 @@ pub fn parse(line: &[u8]) -> Line
         return Line::Bad;
     }
     by_letter(line, line[0])
+}
+
+// The access that an `A` line asks for.
+pub fn access_in(f: Fields) -> rules::Access
+    ensures { λ r. ⌜ r ≡ accessIn f ⌝ }
+{
+    rules::Access {
+        op: f.op as u64,
+        state: f.state as u64,
+        width: f.width as u64,
+        addr: f.addr,
+        datum: f.datum,
+    }
 }

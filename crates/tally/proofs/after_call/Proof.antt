@@ -1,9 +1,9 @@
--- `benchwork::after_call` meets its contract.
+-- `tally::after_call` meets its contract.
 use mathlib.Core.Path.{sym, _∙_}
-use Rattle.benchwork.specs.Bench.{callCounted}
+use Rattle.tally.specs.Tally.{callCounted}
 use borrow.Author.Needs.{needs}
-use Rattle.benchwork.proofs.after_call.Statement.{statement}
-use Rattle.benchwork.proofs.after_call.Tie as tie
+use Rattle.tally.proofs.after_call.Statement.{statement}
+use Rattle.tally.proofs.after_call.Tie as tie
 
 next-requires : tie.Need-next-requires
 next-requires c κs = search needs

@@ -1,8 +1,8 @@
--- `benchwork::next` meets its contract.
-use Rattle.benchwork.specs.Bench.{next}
+-- `tally::next` meets its contract.
+use Rattle.tally.specs.Tally.{next}
 use borrow.Author.Needs.{needs}
-use Rattle.benchwork.proofs.next.Statement.{statement}
-use Rattle.benchwork.proofs.next.Tie as tie
+use Rattle.tally.proofs.next.Statement.{statement}
+use Rattle.tally.proofs.next.Tie as tie
 
 wrapping-add-u64-requires : tie.Need-wrapping-add-u64-requires
 wrapping-add-u64-requires c κs = search needs

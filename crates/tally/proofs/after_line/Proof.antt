@@ -1,9 +1,9 @@
--- `benchwork::after_line` meets its contract.
+-- `tally::after_line` meets its contract.
 use mathlib.Core.Path.{refl, sym}
-use Rattle.benchwork.specs.Bench.{lineCounted}
+use Rattle.tally.specs.Tally.{lineCounted}
 use borrow.Author.Needs.{needs}
-use Rattle.benchwork.proofs.after_line.Statement.{statement}
-use Rattle.benchwork.proofs.after_line.Tie as tie
+use Rattle.tally.proofs.after_line.Statement.{statement}
+use Rattle.tally.proofs.after_line.Tie as tie
 
 next-requires : tie.Need-next-requires
 next-requires c κs = search needs

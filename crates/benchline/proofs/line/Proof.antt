@@ -1,11 +1,11 @@
--- `benchwork::line` meets its contract.
+-- `benchline::line` meets its contract.
 use mathlib.Core.Path.{sym, _∙_}
 use denote.Ref.{now}
 use Rattle.rules.proofs.Demand1.Interrupts.{interrupt-leaves, trap-leaves, init-leaves}
-use Rattle.benchwork.specs.Bench.{callDone, lineDone}
+use Rattle.benchline.specs.Bench.{callDone, lineDone}
 use borrow.Author.Needs.{needs}
-use Rattle.benchwork.proofs.line.Statement.{statement}
-use Rattle.benchwork.proofs.line.Tie as tie
+use Rattle.benchline.proofs.line.Statement.{statement}
+use Rattle.benchline.proofs.line.Tie as tie
 
 enum-known-asks : tie.Need-enum-known-asks
 enum-known-asks c = search needs

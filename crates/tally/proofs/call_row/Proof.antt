@@ -1,9 +1,9 @@
--- `benchwork::call_row` meets its contract.
+-- `tally::call_row` meets its contract.
 use mathlib.Core.Path.{_∙_}
-use Rattle.benchwork.specs.Bench.{callRow, shownRow}
+use Rattle.tally.specs.Tally.{callRow, shownRow}
 use borrow.Author.Needs.{needs}
-use Rattle.benchwork.proofs.call_row.Statement.{statement}
-use Rattle.benchwork.proofs.call_row.Tie as tie
+use Rattle.tally.proofs.call_row.Statement.{statement}
+use Rattle.tally.proofs.call_row.Tie as tie
 
 shown-requires : tie.Need-shown-requires
 shown-requires c κs = search needs

@@ -1,8 +1,8 @@
--- `benchwork::printed_as` meets its contract.
-use Rattle.benchwork.specs.Bench.{printedAs}
+-- `tally::printed_as` meets its contract.
+use Rattle.tally.specs.Tally.{printedAs}
 use borrow.Author.Needs.{needs}
-use Rattle.benchwork.proofs.printed_as.Statement.{statement}
-use Rattle.benchwork.proofs.printed_as.Tie as tie
+use Rattle.tally.proofs.printed_as.Statement.{statement}
+use Rattle.tally.proofs.printed_as.Tie as tie
 
 enum-known-p : tie.Need-enum-known-p
 enum-known-p c = search needs
