@@ -38,14 +38,14 @@ module _ (m : Memory) (w : List ℕ) (c : Call) (u : Unit) (r : Reply) (is : isU
   unit-reply a e = e ∙ rw called (rw du (rw is))
 
 module _ (m : Memory) (w : List ℕ) (c : Call) where
-  -- words, memory and reply at once: u the unit that the words are, o the words written, n memory after it, a the reply's number
+  -- words, memory and reply at once: o the words written, n memory after the call, a the reply's number
   pub unit-all :
-      (u : Unit) (o : List ℕ) (n : Memory) (a : ℕ) → isUnit w ≡ true → u ≡ decoded w
-      → (o ≡ coded (callOf m u c .reply .unit)) × ((n ≡ callOf m u c .memory) × (a ≡ replyWord (shown (callOf m u c .reply .answer))))
+      (o : List ℕ) (n : Memory) (a : ℕ) → isUnit w ≡ true
+      → (o ≡ coded (callOf m (decoded w) c .reply .unit)) × ((n ≡ callOf m (decoded w) c .memory) × (a ≡ replyWord (shown (callOf m (decoded w) c .reply .answer))))
       → (o ≡ wordsAfter m w c) × ((n ≡ memoryAfter m w c) × (a ≡ replyAfter m w c))
   unfolding memoryAfter pick
-  unit-all u o n a is du h =
-      (unit-words m w c u _ is du refl o (h .0), (h .1 .0 ∙ rw du (rw is), unit-reply m w c u _ is du refl a (h .1 .1)))
+  unit-all o n a is h =
+      (unit-words m w c (decoded w) _ is refl refl o (h .0), (h .1 .0 ∙ rw is, unit-reply m w c (decoded w) _ is refl refl a (h .1 .1)))
 
   pub stay-words : isUnit w ≡ false → w ≡ wordsAfter m w c
   unfolding wordsAfter pick

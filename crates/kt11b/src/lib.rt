@@ -2,13 +2,12 @@
 // No function requires anything: words that are no unit are answered 70, and change nothing. The C header is host/include/kt11b.h.
 use rules::Access;
 use rules::Reply;
-use rules::Unit;
 ghost use mathlib.Core.Path.{_≡_};
 ghost use Rattle.rules.specs.declared.Call.{Call};
 ghost use Rattle.rules.specs.Memory.{Memory};
 ghost use Rattle.rules.specs.Calls.{callOf, fresh};
 ghost use Rattle.rules.specs.Answers.{shown};
-ghost use Rattle.coding.specs.Coding.{coded};
+ghost use Rattle.coding.specs.Coding.{decoded, coded};
 ghost use Rattle.replies.specs.Replies.{replyWord};
 ghost use Rattle.panel.specs.Panel.{registerRead, tagRead, wordRead, counterRead, waitRead, pagePlace};
 ghost use Rattle.kt11b.specs.Doors.{wordsAfter, memoryAfter, replyAfter};
@@ -36,13 +35,13 @@ fn put_back(unit: &mut [u16; coding::WORDS], reply: Reply) -> u64
     replies::replied(answer)
 }
 
-// An access by all its steps, of the unit that the words are.
-fn by_steps(unit: &mut [u16; coding::WORDS], u: Unit, memory: &mut [u8], q: Access) -> u64
-    ensures words { λ r. ⌜ now (unit .exit) ≡ coded (callOf (now (memory .entry)) u (Call.Access q) .reply .unit) ⌝ }
-    ensures memory { λ r. ⌜ now (memory .exit) ≡ callOf (now (memory .entry)) u (Call.Access q) .memory ⌝ }
-    ensures reply { λ r. ⌜ r ≡ replyWord (shown (callOf (now (memory .entry)) u (Call.Access q) .reply .answer)) ⌝ }
+// An access by all its steps, of words that are a unit.
+fn by_steps(unit: &mut [u16; coding::WORDS], memory: &mut [u8], q: Access) -> u64
+    ensures words { λ r. ⌜ now (unit .exit) ≡ coded (callOf (now (memory .entry)) (decoded (now (unit .entry))) (Call.Access q) .reply .unit) ⌝ }
+    ensures memory { λ r. ⌜ now (memory .exit) ≡ callOf (now (memory .entry)) (decoded (now (unit .entry))) (Call.Access q) .memory ⌝ }
+    ensures reply { λ r. ⌜ r ≡ replyWord (shown (callOf (now (memory .entry)) (decoded (now (unit .entry))) (Call.Access q) .reply .answer)) ⌝ }
 {
-    let reply = unit::access(u, memory, q);
+    let reply = unit::access(coding::decoded(*unit), memory, q);
     put_back(unit, reply)
 }
 
@@ -68,9 +67,9 @@ fn by_sort(unit: &mut [u16; coding::WORDS], memory: &mut [u8], q: Access) -> u64
                 let answer = o.answer;
                 return replies::replied(answer);
             }
-            return by_steps(unit, coding::decoded(w), memory, q);
+            return by_steps(unit, memory, q);
         }
-        return by_steps(unit, coding::decoded(w), memory, q);
+        return by_steps(unit, memory, q);
     }
     // Words that are no unit stay as they are.
     replies::no_unit()

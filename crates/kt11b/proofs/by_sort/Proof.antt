@@ -56,9 +56,6 @@ returns c =
       (quick-memory m w q _ is s over _ (c .before .before .before .before .before .before .store .ensures), quick-reply m w q _ is s over _ (c .replied .ensures)),
     )
 
-decoded-requires : tie.Need-decoded-requires
-decoded-requires c κs = search needs
-
 by-steps-requires : tie.Need-by-steps-requires
 by-steps-requires c κs = search needs
 
@@ -66,10 +63,7 @@ same-length-2 : tie.Need-same-length-2
 same-length-2 c = search needs
 
 returns-2 : tie.Need-returns-2
-returns-2 c = unit-all _ _ _ _ _ _ _ (sym (c .before .before .before .before .before .before .before .before .before .before .before .before .before .before .is-unit .ensures) ∙ c .before .before .before .before .before .before .before .before .before .before .before .before .before .if1 .taken) (c .before .before .before .before .decoded .ensures) (c .before .before .by-steps .ensures)
-
-decoded-requires-2 : tie.Need-decoded-requires-2
-decoded-requires-2 c κs = search needs
+returns-2 c = unit-all _ _ _ _ _ _ (sym (c .before .before .before .before .before .before .before .before .before .before .before .before .before .is-unit .ensures) ∙ c .before .before .before .before .before .before .before .before .before .before .before .before .if1 .taken) (c .before .before .by-steps .ensures)
 
 by-steps-requires-2 : tie.Need-by-steps-requires-2
 by-steps-requires-2 c κs = search needs
@@ -78,7 +72,7 @@ same-length-3 : tie.Need-same-length-3
 same-length-3 c = search needs
 
 returns-3 : tie.Need-returns-3
-returns-3 c = unit-all _ _ _ _ _ _ _ (sym (c .before .before .before .before .before .before .before .before .before .before .is-unit .ensures) ∙ c .before .before .before .before .before .before .before .before .before .if1 .taken) (c .before .before .before .before .decoded2 .ensures) (c .before .before .by-steps2 .ensures)
+returns-3 c = unit-all _ _ _ _ _ _ (sym (c .before .before .before .before .before .before .before .before .before .is-unit .ensures) ∙ c .before .before .before .before .before .before .before .before .if1 .taken) (c .before .before .by-steps2 .ensures)
 
 no-unit-requires : tie.Need-no-unit-requires
 no-unit-requires c κs = search needs
@@ -101,11 +95,9 @@ by-sort-spec =
     replied-requires
     same-length
     returns
-    decoded-requires
     by-steps-requires
     same-length-2
     returns-2
-    decoded-requires-2
     by-steps-requires-2
     same-length-3
     returns-3
