@@ -16,7 +16,7 @@ pub fn line(b: Bench, m: &mut [u8], asks: Line) -> Told
     match asks {
         Line::Store(at, word) => {
             memory::store_word(m, at as usize, word);
-            tally::after_line(b, tally::nothing_said())
+            tally::after_line(b, rowtext::empty())
         }
         Line::Access(f) => tally::after_call(b, unit::access(u, m, linetext::access_in(f))),
         Line::Interrupt => tally::after_call(b, unit::interrupt(u)),

@@ -5,10 +5,10 @@ use mathlib.Core.Bool.{Bool, true, false}
 use mathlib.Core.List.{List, [], _∷_, _++_, append-nil}
 use native.Mathlib.Omega.{arith}
 use lib.Dec.{eqb, ltb}
-use lib.ListN.{set}
-use borrow.Author.Tests.{ne-eqb, ltb-false}
+use borrow.Author.Tests.{ne-eqb}
 use Rattle.rules.specs.Choice.{pick}
 use Rattle.rules.specs.Memory.{Memory}
+use Rattle.rules.proofs.Laws.Choices.{picked}
 use Rattle.fieldtext.specs.Cut.{onto}
 use Rattle.linetext.specs.Line.{lineOf}
 use Rattle.gathering.specs.declared.Gather.{Gather}
@@ -30,18 +30,8 @@ push-last g (b ∷ p) x = push-last (pushOf g b) p x
 
 -- is not empty
 push-some : (g : Gather) (x : ℕ) → 0 < pushOf g x .len
-unfolding pushOf pick
-push-some g x = by (ltb (g .len) 40) refl
-  where
-    more : Gather
-    more = record { buf = set (g .buf) (g .len) x; len = g .len + 1; over = g .over }
-
-    full : Gather
-    full = record { buf = g .buf; len = g .len; over = true }
-
-    by : (t : Bool) → ltb (g .len) 40 ≡ t → 0 < pick t more full .len
-    by true e = omega arith
-    by false e = omega (arith, ltb-false (g .len) 40 e)
+unfolding pushOf
+push-some g x = picked (λ (h : Gather). 0 < h .len) (ltb (g .len) 40) _ _ (λ e. omega arith) (λ e. omega arith)
 
 -- and stays so
 some-stays : (g : Gather) (s : List ℕ) → 0 < g .len → 0 < pushAll g s .len

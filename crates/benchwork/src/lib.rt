@@ -57,7 +57,7 @@ pub fn step(s: Progress, m: &mut [u8], byte: u8) -> Said
     };
     Said {
         progress,
-        text: tally::nothing_said(),
+        text: rowtext::empty(),
     }
 }
 
@@ -68,7 +68,7 @@ pub fn end(s: Progress, m: &mut [u8]) -> Text
     let bench = s.bench;
     let held = s.gather;
     if held.len == 0 {
-        return tally::nothing_said();
+        return rowtext::empty();
     }
     let told = benchline::line(bench, m, gathering::line_in(held));
     told.text

@@ -8,9 +8,9 @@ use native.Mathlib.Omega.{arith}
 use lib.ListN.{length, getD, take, set, length-append, length-set}
 use lib.Dec.{ltb, eqb}
 use lib.Seq.{take-suc-set}
-use borrow.Author.Tests.{le-ltb, ltb-true, ltb-false, eqb-true}
+use borrow.Author.Tests.{le-ltb, lt-ltb, ltb-true, ltb-false, eqb-true}
 use Rattle.rules.specs.Choice.{pick}
-use Rattle.rules.proofs.Laws.Choices.{pick-same}
+use Rattle.rules.proofs.Laws.Choices.{pick-same, picked}
 use Rattle.fieldtext.specs.Cut.{onto, fields, headOf, fieldsAt}
 use Rattle.fieldtext.specs.Number.{allOctal, worth, isNumber}
 use Rattle.fieldtext.proofs.Scan.{fields-split}
@@ -93,40 +93,24 @@ long-bad s h =
     let all : suc (length name) + total rest ≡ suc (length s) = ap total (sym (fields-split s)) ∙ total-fields s in
     ap fromFields (fields-split s) ∙ name-long name rest (omega arith)
 
--- what a gather holds of the line p that was pushed: all of it, or the mark that it was too long
+-- what a gather holds of the line p that was pushed: all of it, or that it was too long
 data Held (p : List ℕ) (g : Gather) : Type 0 where
-  kept : g .over ≡ false → g .len ≡ length p → length p ≤ 40 → take (g .len) (g .buf) ≡ p → length (g .buf) ≡ 40 → Held p g
-  lost : g .over ≡ true → 40 < length p → Held p g
+  kept : g .len ≡ length p → length p ≤ 40 → take (g .len) (g .buf) ≡ p → length (g .buf) ≡ 40 → Held p g
+  lost : 40 < g .len → 40 < length p → Held p g
 
 held-push : (p : List ℕ) (g : Gather) (b : ℕ) → Held p g → Held (p ++ b ∷ []) (pushOf g b)
-unfolding pushOf pick
-held-push p g b (kept o l w t z) = by (ltb (g .len) 40) refl
-  where
-    longer : length (p ++ b ∷ []) ≡ length p + 1
-    longer = length-append p (b ∷ [])
-
-    more : Gather
-    more = record { buf = set (g .buf) (g .len) b; len = g .len + 1; over = g .over }
-
-    full : Gather
-    full = record { buf = g .buf; len = g .len; over = true }
-
-    by : (u : Bool) → ltb (g .len) 40 ≡ u → Held (p ++ b ∷ []) (pick u more full)
-    by true e =
-        let room : g .len < length (g .buf) = omega (arith, ltb-true (g .len) 40 e) in
-        kept o (omega (arith, longer)) (omega (arith, longer, ltb-true (g .len) 40 e))
-        (simp (add-one, take-suc-set (g .buf) (g .len) b room, t))
-        (length-set (g .buf) (g .len) b ∙ z)
-    by false e = lost refl (omega (arith, longer, ltb-false (g .len) 40 e))
-held-push p g b (lost o h) = by (ltb (g .len) 40)
-  where
-    longer : length (p ++ b ∷ []) ≡ length p + 1
-    longer = length-append p (b ∷ [])
-
-    by : (u : Bool)
-        → Held (p ++ b ∷ []) (pick u (record { buf = set (g .buf) (g .len) b; len = g .len + 1; over = g .over }) (record { buf = g .buf; len = g .len; over = true }))
-    by true = lost o (omega (arith, longer))
-    by false = lost refl (omega (arith, longer))
+unfolding pushOf
+held-push p g b (kept l w t z) =
+    let longer = length-append p (b ∷ []) in
+    picked (Held (p ++ b ∷ [])) (ltb (g .len) 40) _ _
+    (λ e.
+    let room : g .len < length (g .buf) = omega (arith, ltb-true (g .len) 40 e) in
+    kept (omega arith) (omega (arith, ltb-true (g .len) 40 e)) (simp (add-one, take-suc-set (g .buf) (g .len) b room, t))
+    (length-set (g .buf) (g .len) b ∙ z))
+    (λ e. lost (omega arith) (omega (arith, ltb-false (g .len) 40 e)))
+held-push p g b (lost l h) =
+    let longer = length-append p (b ∷ []) in
+    picked (Held (p ++ b ∷ [])) (ltb (g .len) 40) _ _ (λ e. lost (omega (arith, ltb-true (g .len) 40 e)) (omega arith)) (λ e. lost (omega arith) (omega arith))
 
 held-all : (s p : List ℕ) (g : Gather) → Held p g → Held (p ++ s) (pushAll g s)
 unfolding pushAll
@@ -136,10 +120,10 @@ held-all (b ∷ s) p g h = rw append-assoc at (held-all s (p ++ b ∷ []) (pushO
 -- a gather that holds a line asks for what the line asks for
 held-line : (p : List ℕ) (g : Gather) → Held p g → lineIn g ≡ lineOf p
 unfolding lineIn pick
-held-line p g (kept o l w t z) = simp (o, le-ltb 40 (g .len) (omega arith), t)
-held-line p g (lost o h) = simp o (sym (long-bad p (omega arith)))
+held-line p g (kept l w t z) = simp (le-ltb 40 (g .len) (omega arith), t)
+held-line p g (lost l h) = simp (lt-ltb 40 (g .len) l) (sym (long-bad p (omega arith)))
 
 -- whatever the line, what is gathered of it asks for what it asks for
 pub whole : (s : List ℕ) → lineIn (gathered s) ≡ lineOf s
 unfolding gathered nothingYet
-whole s = held-line s (gathered s) (held-all s [] nothingYet (kept refl refl (omega arith) refl refl))
+whole s = held-line s (gathered s) (held-all s [] nothingYet (kept refl (omega arith) refl refl))

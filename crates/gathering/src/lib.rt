@@ -3,12 +3,14 @@ use linetext::Line;
 ghost use mathlib.Core.Path.{_≡_};
 ghost use Rattle.gathering.specs.Gather.{nothingYet, pushOf, lineIn};
 
-// The bytes of a line so far: the first `len` of `buf`, or more than it holds.
+// The bytes of a line so far: the first `len` of `buf`, or, where `len` is above 40, more than it holds.
 pub struct Gather {
     pub buf: [u8; 40],
     pub len: usize,
-    pub over: bool,
 }
+
+// The length that says that the line is longer than the bytes.
+const TOO_LONG: usize = 41;
 
 // No byte of a line yet.
 pub fn nothing() -> Gather
@@ -17,11 +19,10 @@ pub fn nothing() -> Gather
     Gather {
         buf: [0u8; 40],
         len: 0,
-        over: false,
     }
 }
 
-// One more byte of the line, which is no newline. A byte that finds no room marks the line and is dropped.
+// One more byte of the line, which is no newline. A byte that finds no room makes the line too long and is dropped.
 pub fn push(g: Gather, b: u8) -> Gather
     ensures { λ r. ⌜ r ≡ pushOf g b ⌝ }
 {
@@ -32,7 +33,7 @@ pub fn push(g: Gather, b: u8) -> Gather
         out.len = at + 1;
         return out;
     }
-    out.over = true;
+    out.len = TOO_LONG;
     out
 }
 
@@ -40,9 +41,6 @@ pub fn push(g: Gather, b: u8) -> Gather
 pub fn line_in(g: Gather) -> Line
     ensures { λ r. ⌜ r ≡ lineIn g ⌝ }
 {
-    if g.over {
-        return Line::Bad;
-    }
     let len = g.len;
     let buf = g.buf;
     if 40 < len {

@@ -35,7 +35,7 @@ fn put_back(unit: &mut [u16; coding::WORDS], reply: Reply) -> u64
     replies::replied(answer)
 }
 
-// An access by all its steps, of words that are a unit.
+// An access by all its steps, of the unit that the words decode to: that they are one was asked before.
 fn by_steps(unit: &mut [u16; coding::WORDS], memory: &mut [u8], q: Access) -> u64
     ensures words { λ r. ⌜ now (unit .exit) ≡ coded (callOf (now (memory .entry)) (decoded (now (unit .entry))) (Call.Access q) .reply .unit) ⌝ }
     ensures memory { λ r. ⌜ now (memory .exit) ≡ callOf (now (memory .entry)) (decoded (now (unit .entry))) (Call.Access q) .memory ⌝ }

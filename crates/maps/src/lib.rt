@@ -68,7 +68,7 @@ fn user_walk(m: &[u8], maps: Maps, p: u8) -> Walk
     }
 }
 
-// The walk of a page; it is not asked for exec page 0.
+// The walk of a page that is not exec page 0.
 pub fn walk_of(m: &[u8], maps: Maps, user: bool, p: u8) -> Walk
     ensures { λ r. ⌜ r ≡ walkOf (now (m .entry)) maps user p ⌝ }
 {

@@ -4,11 +4,12 @@ use Rattle.rules.specs.declared.Physical.{Physical}
 use Rattle.rules.specs.declared.Returned.{Returned}
 use Rattle.rules.specs.Answers.{shownAs}
 
--- a physical address has 18 bits; a larger number, which no answer gives, is taken by its low 18
+-- a physical address by its 18 bits, and that there is one
 unfoldable pub physicalBits : Physical → ℕ
 physicalBits (Physical.At at) = at % 0x40000 * 0x10000 + 0x400000000
 physicalBits Physical.Nowhere = 0
 
+-- what comes back, in its bits
 unfoldable pub replyWord : Returned → ℕ
 replyWord s = s .datum + physicalBits (s .physical) + s .number % 256 * 0x10000000000
 

@@ -2,12 +2,16 @@
 use Prim.Native.Nat.{ℕ, _+_, _≤_}
 use mathlib.Core.Path.{_≡_}
 use mathlib.Core.List.{List, _++_}
-use lib.ListN.{length, drop}
+use lib.ListN.{length, drop, replicate}
 use Rattle.rowtext.specs.declared.Text.{Text}
 
 -- the bytes that a text holds
 abbrev pub shown : Text → List ℕ
 shown t = drop (t .from) (t .bytes)
+
+-- the text of a line that prints nothing
+abbrev pub noText : Text
+noText = record { bytes = replicate 64 0; from = 64 }
 
 -- n bytes fit before what the text holds
 pub record Room (t : Text) (n : ℕ) : Type 0 where

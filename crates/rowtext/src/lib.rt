@@ -5,7 +5,7 @@ ghost use Prim.Native.Nat.{_≤_};
 ghost use lib.ListN.{drop};
 ghost use Rattle.rowtext.specs.Digits.{octal6, decimal};
 ghost use Rattle.rowtext.specs.Row.{addressText, rowOf, badOf, headerOf};
-ghost use Rattle.rowtext.specs.Written.{Room, Ahead};
+ghost use Rattle.rowtext.specs.Written.{noText, Room, Ahead};
 
 // A line of the output: the bytes from `from` on.
 pub struct Text {
@@ -23,8 +23,9 @@ const TAB: u8 = 9;
 
 const NEWLINE: u8 = 10;
 
-fn empty() -> Text
-    ensures { λ r. ⌜ (drop (r .from) (r .bytes) ≡ []) × Room r 64 ⌝ }
+// The text of a line that prints nothing.
+pub fn empty() -> Text
+    ensures { λ r. ⌜ (r ≡ noText) × Room r 64 ⌝ }
 {
     Text {
         bytes: [0u8; 64],

@@ -24,7 +24,7 @@ wordAt m at = byteAt m at + 256 * byteAt m (at + 1)
 unfoldable pub evenOf : ℕ → ℕ
 evenOf at = at / 2 * 2
 
--- and a word stored so
+-- a word stored, low byte first
 unfoldable pub storeWord : Memory → ℕ → ℕ → Memory
 storeWord m at v = set (set m at (v % 256)) (at + 1) (v / 256 % 256)
 

@@ -75,7 +75,7 @@ coreStored c p v (Operating.Kept i) = withKept c (set (c .kept) i (merged p (get
 coreStored c p v Operating.Ktum = c
 coreStored c p v Operating.Ktem = c
 
--- and of the rest: "A store into KTUM or KTEM, byte or word, empties all cells and sets the counter to 10o."
+-- and to the rest: "A store into KTUM or KTEM, byte or word, empties all cells and sets the counter to 10o."
 unfoldable pub operatingEffect : Maps → Part → ℕ → Operating → Effect
 operatingEffect r p v Operating.Ktcs = Effect.Keep
 operatingEffect r p v (Operating.Kept i) = Effect.Keep

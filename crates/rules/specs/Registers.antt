@@ -101,8 +101,8 @@ operatingWord c r (Operating.Kept i) = getD (c .kept) i 0
 operatingWord c r Operating.Ktum = r .ktum
 operatingWord c r Operating.Ktem = r .ktem
 
--- what a read of a register gives that the cells answer for: "KTMR reads the counter times 256", which is in its high byte; a scratchpad word
--- reads what its cell holds, which in an empty one is 0
+-- what a read of a register gives that the cells answer for: "KTMR reads the counter times 256": its low 8 bits, in KTMR's
+-- "high byte"; a scratchpad word reads what its cell holds, which in an empty one is 0
 unfoldable pub peeked : Cells → Associative → ℕ
 peeked k Associative.Ktmr = k .counter % 256 * 256
 peeked k (Associative.Pad i) = getD (k .list) i emptyCell .word

@@ -19,7 +19,7 @@ use Rattle.tally.specs.declared.Bench.{Bench}
 abbrev pub Holds : Text → List ℕ → Type 0
 Holds t s = (drop (t .from) (t .bytes) ≡ s) × (t .from ≤ 64)
 
--- one more; no input is long enough to go round
+-- one more, by 64 bits
 unfoldable pub next : ℕ → ℕ
 next n = (n + 1) % 2 ^ 64
 

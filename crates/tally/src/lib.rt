@@ -4,7 +4,6 @@ use rules::Physical;
 use rules::Reply;
 use rules::Unit;
 ghost use mathlib.Core.Path.{_≡_};
-ghost use mathlib.Core.List.{[]};
 ghost use Rattle.tally.specs.Tally.{Holds, next, printedAs, callRow, lineCounted, callCounted};
 
 // The unit, and how many calls and lines there were so far.
@@ -25,16 +24,6 @@ pub fn next(n: u64) -> u64
     ensures { λ r. ⌜ r ≡ next n ⌝ }
 {
     std::num::wrapping_add_u64(n, 1)
-}
-
-// The text of a line that prints nothing.
-pub fn nothing_said() -> Text
-    ensures { λ r. ⌜ Holds r [] ⌝ }
-{
-    Text {
-        bytes: [0u8; 64],
-        from: 64,
-    }
 }
 
 // The cast loses nothing, since 18 bits are left.

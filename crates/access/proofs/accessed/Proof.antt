@@ -18,7 +18,7 @@ after-wait-requires c κs = search needs
 
 returns : tie.Need-returns
 unfolding accessed pick
-returns c = simp (run-done, sym (c .after-wait .ensures), sym (c .before .due-of .ensures), c .before .before .if1 .taken, sym (c .before .before .before .well-shaped .ensures))
+returns c = simp (sym (c .after-wait .ensures), sym (c .before .due-of .ensures), c .before .before .if1 .taken, sym (c .before .before .before .well-shaped .ensures))
 
 refused-requires : tie.Need-refused-requires
 refused-requires c κs = search needs

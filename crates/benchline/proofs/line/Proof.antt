@@ -1,7 +1,8 @@
 -- `benchline::line` meets its contract.
-use mathlib.Core.Path.{sym, _∙_}
+use mathlib.Core.Path.{sym, ap, _∙_}
 use denote.Ref.{now}
 use Rattle.rules.proofs.Demand1.Interrupts.{interrupt-leaves, trap-leaves, init-leaves}
+use Rattle.rowtext.specs.Written.{shown}
 use Rattle.benchline.specs.Bench.{callDone, lineDone}
 use borrow.Author.Needs.{needs}
 use Rattle.benchline.proofs.line.Statement.{statement}
@@ -16,8 +17,8 @@ cast-store-word c = search needs
 store-word-requires : tie.Need-store-word-requires
 store-word-requires c κs = search needs
 
-nothing-said-requires : tie.Need-nothing-said-requires
-nothing-said-requires c κs = search needs
+empty-requires : tie.Need-empty-requires
+empty-requires c κs = search needs
 
 after-line-requires : tie.Need-after-line-requires
 after-line-requires c κs = search needs
@@ -81,7 +82,7 @@ same-length c = search needs
 
 returns : tie.Need-returns
 unfolding lineDone
-returns c = (c .after-line .ensures .0 ∙ simp (c .before .before .before .before .before .before .before .asks .given .1), (c .before .before .before .before .store-word .ensures ∙ simp (c .before .before .before .before .before .before .before .asks .given .1), (simp (c .after-line .ensures .1, c .before .nothing-said .ensures .0, c .before .before .before .before .before .before .before .asks .given .1), rw (c .after-line .ensures .1) (c .before .nothing-said .ensures .1))))
+returns c = (c .after-line .ensures .0 ∙ simp (c .before .before .before .before .before .before .before .asks .given .1), (c .before .before .before .before .store-word .ensures ∙ simp (c .before .before .before .before .before .before .before .asks .given .1), (simp (c .after-line .ensures .1, ap shown (c .before .empty .ensures .0), c .before .before .before .before .before .before .before .asks .given .1), rw (c .after-line .ensures .1) (c .before .empty .ensures .1 .within))))
 
 same-length-2 : tie.Need-same-length-2
 same-length-2 c = search needs
@@ -113,7 +114,7 @@ line-spec =
     enum-known-asks
     cast-store-word
     store-word-requires
-    nothing-said-requires
+    empty-requires
     after-line-requires
     enum-known-asks-2
     access-in-requires

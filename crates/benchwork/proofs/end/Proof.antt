@@ -1,18 +1,19 @@
 -- `benchwork::end` meets its contract.
-use mathlib.Core.Path.{_∙_}
+use mathlib.Core.Path.{ap, _∙_}
 use borrow.Author.Tests.{eq-eqb, ne-eqb}
 use Rattle.rules.specs.Choice.{pick}
+use Rattle.rowtext.specs.Written.{shown}
 use Rattle.benchwork.specs.Bytes.{ended}
 use borrow.Author.Needs.{needs}
 use Rattle.benchwork.proofs.end.Statement.{statement}
 use Rattle.benchwork.proofs.end.Tie as tie
 
-nothing-said-requires : tie.Need-nothing-said-requires
-nothing-said-requires c κs = search needs
+empty-requires : tie.Need-empty-requires
+empty-requires c κs = search needs
 
 returns : tie.Need-returns
 unfolding ended pick
-returns c = (c .nothing-said .ensures .0 ∙ simp (eq-eqb _ _ (c .before .if1 .taken)), c .nothing-said .ensures .1)
+returns c = (ap shown (c .empty .ensures .0) ∙ simp (eq-eqb _ _ (c .before .if1 .taken)), c .empty .ensures .1 .within)
 
 line-in-requires : tie.Need-line-in-requires
 line-in-requires c κs = search needs
@@ -30,4 +31,4 @@ returns-2 c = (c .before .before .before .line .ensures .1 .1 .0 ∙ simp (c .be
 pub end-spec : {M : Type 1} → statement M
 end-spec =
     tie.close
-    (tie.spec nothing-said-requires returns line-in-requires line-requires same-length returns-2)
+    (tie.spec empty-requires returns line-in-requires line-requires same-length returns-2)

@@ -1,8 +1,9 @@
 -- `benchwork::step` meets its contract.
-use mathlib.Core.Path.{_∙_}
+use mathlib.Core.Path.{ap, _∙_}
 use borrow.Author.Tests.{eq-eqb, ne-eqb}
 use Rattle.benchwork.specs.Bytes.{stepped, lineEnded, byteAdded}
 use Rattle.rules.specs.Choice.{pick}
+use Rattle.rowtext.specs.Written.{shown}
 use borrow.Author.Needs.{needs}
 use Rattle.benchwork.proofs.step.Statement.{statement}
 use Rattle.benchwork.proofs.step.Tie as tie
@@ -26,12 +27,12 @@ returns c = (simp (c .nothing .ensures, c .before .before .before .before .befor
 push-requires : tie.Need-push-requires
 push-requires c κs = search needs
 
-nothing-said-requires : tie.Need-nothing-said-requires
-nothing-said-requires c κs = search needs
+empty-requires : tie.Need-empty-requires
+empty-requires c κs = search needs
 
 returns-2 : tie.Need-returns-2
 unfolding stepped byteAdded pick
-returns-2 c = (simp (c .before .push .ensures, ne-eqb _ _ (c .before .before .if1 .left)), (simp (ne-eqb _ _ (c .before .before .if1 .left)), (c .nothing-said .ensures .0 ∙ simp (ne-eqb _ _ (c .before .before .if1 .left)), c .nothing-said .ensures .1)))
+returns-2 c = (simp (c .before .push .ensures, ne-eqb _ _ (c .before .before .if1 .left)), (simp (ne-eqb _ _ (c .before .before .if1 .left)), (ap shown (c .empty .ensures .0) ∙ simp (ne-eqb _ _ (c .before .before .if1 .left)), c .empty .ensures .1 .within)))
 
 pub step-spec : {M : Type 1} → statement M
 step-spec =
@@ -43,5 +44,5 @@ step-spec =
     same-length
     returns
     push-requires
-    nothing-said-requires
+    empty-requires
     returns-2)

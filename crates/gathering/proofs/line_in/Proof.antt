@@ -18,38 +18,33 @@ field-size l e = sym (length-map l (λ (v : ℕ). v)) ∙ e
 
 returns : tie.Need-returns
 unfolding lineIn pick
-returns c = simp (c .if1 .taken)
-
-returns-2 : tie.Need-returns-2
-unfolding lineIn pick
-returns-2 c = simp (c .before .before .if1 .left, lt-ltb _ _ (c .if2 .taken))
+returns c = simp (lt-ltb _ _ (c .if1 .taken))
 
 array-share-prefix-buf : tie.Need-array-share-prefix-buf
 array-share-prefix-buf c =
-    let size : length (c .before .before .before .args .g .buf) ≡ 40 = field-size (c .before .before .before .args .g .buf) (c .before .before .before .good .0 .1 .1 .0 .1 .0 .1) in
+    let size : length (c .before .before .args .g .buf) ≡ 40 = field-size (c .before .before .args .g .buf) (c .before .before .good .0 .1 .1 .0 .1 .0 .1) in
     omega arith
 
 slice-aggregate-parse : tie.Need-slice-aggregate-parse
 slice-aggregate-parse c =
-    let g = c .before .before .before .before .args .g in
-    let size : length (g .buf) ≡ 40 = field-size (c .before .before .before .before .args .g .buf) (c .before .before .before .before .good .0 .1 .1 .0 .1 .0 .1) in
+    let g = c .before .before .before .args .g in
+    let size : length (g .buf) ≡ 40 = field-size (c .before .before .before .args .g .buf) (c .before .before .before .good .0 .1 .1 .0 .1 .0 .1) in
     let h : g .len ≤ length (g .buf) = omega arith in
     sym (length-take-le (g .len) (g .buf) h)
 
 parse-requires : tie.Need-parse-requires
 parse-requires c κs = search needs
 
-returns-3 : tie.Need-returns-3
+returns-2 : tie.Need-returns-2
 unfolding lineIn pick
-returns-3 c = c .parse .ensures ∙ sym (simp (c .before .before .before .before .if1 .left, le-ltb _ _ (c .before .before .if2 .left)))
+returns-2 c = c .parse .ensures ∙ sym (simp (le-ltb _ _ (c .before .before .if1 .left)))
 
 pub line-in-spec : {M : Type 1} → statement M
 line-in-spec =
     tie.close
     (tie.spec
     returns
-    returns-2
     array-share-prefix-buf
     slice-aggregate-parse
     parse-requires
-    returns-3)
+    returns-2)

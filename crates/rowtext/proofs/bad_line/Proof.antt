@@ -1,7 +1,9 @@
 -- `rowtext::bad_line` meets its contract: the letters stand before the number, which was written first.
 use borrow.Author.Needs.{needs}
+use mathlib.Core.Path.{ap}
 use mathlib.Core.List.{append-assoc}
 use Rattle.rowtext.specs.Row.{badOf}
+use Rattle.rowtext.specs.Written.{shown}
 use Rattle.rowtext.proofs.bad_line.Statement.{statement}
 use Rattle.rowtext.proofs.bad_line.Tie as tie
 
@@ -32,7 +34,7 @@ returns c = (
     c .before .before .ahead2 .ensures .holds,
     c .before .before .before .ahead .ensures .holds,
     c .before .before .before .before .decimal-ahead .ensures .holds,
-    c .before .before .before .before .before .empty .ensures .0,
+    ap shown (c .before .before .before .before .before .empty .ensures .0),
     append-assoc,
   ),
   c .ahead4 .ensures .within,

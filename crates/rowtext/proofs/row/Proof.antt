@@ -1,7 +1,9 @@
 -- `rowtext::row` meets its contract: each field stands before those that were written first.
 use borrow.Author.Needs.{needs}
+use mathlib.Core.Path.{ap}
 use mathlib.Core.List.{append-assoc}
 use Rattle.rowtext.specs.Row.{rowOf}
+use Rattle.rowtext.specs.Written.{shown}
 use Rattle.rowtext.proofs.row.Statement.{statement}
 use Rattle.rowtext.proofs.row.Tie as tie
 
@@ -32,7 +34,7 @@ returns c = (
     c .before .before .octal-ahead2 .ensures .holds,
     c .before .before .before .place-ahead .ensures .holds,
     c .before .before .before .before .octal-ahead .ensures .holds,
-    c .before .before .before .before .before .empty .ensures .0,
+    ap shown (c .before .before .before .before .before .empty .ensures .0),
     append-assoc,
   ),
   c .decimal-ahead2 .ensures .within,

@@ -47,7 +47,7 @@ SameToTheHost =
     (m : Memory) (cs : List Call) → meets m fresh noneInUse cs ≡ true
     → map hostHas (seenAlong m fresh cs) ≡ map hostHas (plainAlong m (plainOf fresh) cs)
 
--- That those registers are what lies at 777576o and at 777600o to 777616o, whatever the length of memory, and the word of each.
+-- That those registers are what lies at 777576o and at 777600o to 777616o, for every length that 01 allows, and the word of each.
 pub record RegistersByAddress : Type 0 where
   pub places :
       (len : ℕ) → goodLength len ≡ true

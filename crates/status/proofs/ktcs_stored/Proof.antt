@@ -1,10 +1,9 @@
+-- `status::ktcs_stored` meets its contract.
 use Rattle.rules.specs.Status.{ktcsStored}
 use borrow.Author.Needs.{needs}
 use mathlib.Core.Path.{sym}
 use Rattle.status.proofs.ktcs_stored.Statement.{statement}
 use Rattle.status.proofs.ktcs_stored.Tie as tie
-
--- `status::ktcs_stored` meets its contract.
 
 fcn-stored-requires : tie.Need-fcn-stored-requires
 fcn-stored-requires c κs = search needs
