@@ -26,6 +26,12 @@ extern "C" {
 typedef char kt11b_long_has_64_bits[sizeof(unsigned long) == 8 ? 1 : -1];
 typedef char kt11b_short_has_16_bits[sizeof(unsigned short) == 2 ? 1 : -1];
 
+/*
+ * The version of this interface. It rises with each change of a function, of an answer or of the unit's words. Words that were
+ * saved are for the same version alone; those of another layout begin with another word and are answered KT11B_NO_UNIT.
+ */
+#define KT11B_VERSION 1
+
 /* The unit: unsigned short unit[KT11B_UNIT_WORDS]; */
 #define KT11B_UNIT_WORDS 34
 
@@ -73,6 +79,18 @@ typedef char kt11b_short_has_16_bits[sizeof(unsigned short) == 2 ? 1 : -1];
 #define KT11B_KTDT 8UL
 #define KT11B_KTUM 9UL
 #define KT11B_KTEM 10UL
+
+/* KTCS's fields, as masks. */
+#define KT11B_KTCS_FCN 0000003U         /* function: 0 unpaged, 1 destination-only paging, 2 normal paging, 3 start user */
+#define KT11B_KTCS_SS 0000004U          /* source state */
+#define KT11B_KTCS_DS 0000010U          /* destination state */
+#define KT11B_KTCS_UM 0000020U          /* user mode */
+#define KT11B_KTCS_IU 0000040U          /* interrupted user */
+#define KT11B_KTCS_RV 0004000U          /* residency violation */
+#define KT11B_KTCS_PV 0010000U          /* privacy violation */
+#define KT11B_KTCS_WV 0020000U          /* write violation */
+#define KT11B_KTCS_AV 0040000U          /* address violation */
+#define KT11B_KTCS_IV 0100000U          /* instruction violation */
 
 /* How many associative cells there are. */
 #define KT11B_CELLS 8UL
