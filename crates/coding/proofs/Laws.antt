@@ -1,4 +1,4 @@
--- The coding goes there and back: every unit that can be is its words decoded, and words that are a unit are its code.
+-- The coding goes there and back: every unit that can be is its words decoded, and words that hold a unit are its code.
 use Prim.Native.Nat.{ℕ, _+_, _*_, _/_, _%_, _<_, _≤_}
 use mathlib.Core.Path.{_≡_, refl, sym, _∙_}
 use mathlib.Core.Bool.{Bool, true, false}
@@ -95,7 +95,7 @@ cells-stay w long is =
     let behind = drop-drop (2 * cellCount) coreCount w ∙ elements-last w counterPlace 2 long in
     rw (← unit-words w is .last, ← behind) (sym (cells-back cellCount (drop coreCount w) (omega (arith, length-drop coreCount w))))
 
--- Words that are a unit are the code of what they decode to. The bound, too, is that of the words' type.
+-- Words that hold a unit are the code of what they decode to. The bound, too, is that of the words' type.
 pub coded-decoded : (w : List ℕ) → length w ≡ unitWords → getD w 1 0 < 0o200000 → isUnit w ≡ true → coded (decoded w) ≡ w
 unfolding coded decoded coreOf mapsOf coreWords elements
 coded-decoded w long small is =

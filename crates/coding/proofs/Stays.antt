@@ -1,4 +1,4 @@
--- A unit stays a unit: no call of the rules makes words that are a unit into words that are refused.
+-- A unit stays a unit: no call of the rules makes words that hold a unit into words that are refused.
 use Prim.Native.Nat.{ℕ, _<_}
 use mathlib.Core.Path.{_≡_}
 use mathlib.Core.Bool.{Bool, true, false}
@@ -50,7 +50,7 @@ fit-is-unit u h =
       cells = h .cells .names;
     })
 
--- words that are a unit have those ranges, whoever wrote them
+-- words that hold a unit have those ranges, whoever wrote them
 decoded-in-range : (w : List ℕ) → isUnit w ≡ true → InRange cellCount (decoded w)
 unfolding decoded coreOf listOf
 decoded-in-range w is =
@@ -60,6 +60,6 @@ decoded-in-range w is =
       cells = record { number = length-cells cellCount _; from = h .from; below = h .below };
     }
 
--- so no call makes words that are a unit into words that are none
+-- so words that hold a unit hold one after every call
 pub unit-stays : (m : Memory) (w : List ℕ) (c : Call) → isUnit w ≡ true → isUnit (coded (callOf m (decoded w) c .reply .unit)) ≡ true
 unit-stays m w c is = range-is-unit _ (call-in-range m (decoded w) c (decoded-in-range w is))

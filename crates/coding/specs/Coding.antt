@@ -61,7 +61,7 @@ flagNumber false = 0
 
 -- From words ------------------------------------------------------------------------------------------------------------------------
 
--- Whether words are a unit, by the two ends and every field that has fewer values than a word: KTCS's bits 10 to 6 "read 0", and the counter
+-- Whether words hold a unit, by the two ends and every field that has fewer values than a word: KTCS's bits 10 to 6 "read 0", and the counter
 -- names a cell.
 unfoldable pub isUnit : List ℕ → Bool
 isUnit w =

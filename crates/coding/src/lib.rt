@@ -1,4 +1,4 @@
-// How a unit lies in the words that a host owns: whether words are a unit, the unit that they are, and the words of a unit.
+// How a unit lies in the words that a host owns: whether words hold a unit, the unit that they hold, and the words of a unit.
 use rules::CELLS;
 use rules::Cell;
 use rules::Cells;

@@ -1,4 +1,4 @@
--- A call of a unit, and of words that are none: what the words, memory and the reply come to.
+-- A call of a unit, and of words that don't hold one: what the words, memory and the reply come to.
 use Prim.Native.Nat.{ℕ}
 use mathlib.Core.Path.{_≡_, refl, sym, ap, subst, _∙_}
 use mathlib.Core.Bool.{true, false}
@@ -59,7 +59,7 @@ module _ (m : Memory) (w : List ℕ) (c : Call) where
   unfolding replyAfter pick
   stay-reply a is e = e ∙ rw is
 
--- words that are a unit stay one, and words that are none stay as they are
+-- words that hold a unit hold one afterwards, and words that don't hold one stay as they are
 pub unit-after : (m : Memory) (w : List ℕ) (c : Call) → isUnit (wordsAfter m w c) ≡ isUnit w
 unfolding wordsAfter
 unit-after m w c = picked (λ (o : List ℕ). isUnit o ≡ isUnit w) (isUnit w) _ _ (λ is. unit-stays m w c is ∙ sym is) (λ is. refl)

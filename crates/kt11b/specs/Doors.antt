@@ -9,7 +9,7 @@ use Rattle.rules.specs.Calls.{callOf}
 use Rattle.coding.specs.Coding.{isUnit, decoded, coded}
 use Rattle.replies.specs.Replies.{replyWord, noUnit}
 
--- Words that are no unit stay, memory stays with them, and the answer says so; a unit goes through the call as the rules say.
+-- Words that don't hold a unit stay, memory stays with them, and the answer says so; a unit goes through the call as the rules say.
 unfoldable pub wordsAfter : Memory → List ℕ → Call → List ℕ
 wordsAfter m w c = pick (isUnit w) (coded (callOf m (decoded w) c .reply .unit)) w
 

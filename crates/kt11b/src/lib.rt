@@ -1,5 +1,5 @@
 // The static library for hosts: the calls of the unit over words that the host owns, and what front panels and debuggers read.
-// No function requires anything: words that are no unit are answered 70, and change nothing. The C header is host/include/kt11b.h.
+// No function requires anything: words that don't hold a unit are answered 70, and stay as they are. The C header is host/include/kt11b.h.
 use rules::Access;
 use rules::Reply;
 ghost use mathlib.Core.Path.{_≡_};
@@ -35,7 +35,7 @@ fn put_back(unit: &mut [u16; coding::WORDS], reply: Reply) -> u64
     replies::replied(answer)
 }
 
-// An access by all its steps, of the unit that the words decode to: that they are one was asked before.
+// An access by all its steps, of the unit that the words hold: whether they hold one was asked before.
 fn by_steps(unit: &mut [u16; coding::WORDS], memory: &mut [u8], q: Access) -> u64
     ensures words { λ r. ⌜ now (unit .exit) ≡ coded (callOf (now (memory .entry)) (decoded (now (unit .entry))) (Call.Access q) .reply .unit) ⌝ }
     ensures memory { λ r. ⌜ now (memory .exit) ≡ callOf (now (memory .entry)) (decoded (now (unit .entry))) (Call.Access q) .memory ⌝ }
@@ -71,7 +71,7 @@ fn by_sort(unit: &mut [u16; coding::WORDS], memory: &mut [u8], q: Access) -> u64
         }
         return by_steps(unit, memory, q);
     }
-    // Words that are no unit stay as they are.
+    // Words that don't hold a unit stay as they are.
     replies::no_unit()
 }
 

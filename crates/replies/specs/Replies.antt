@@ -17,7 +17,7 @@ replyWord s = s .datum + physicalBits (s .physical) + s .number % 256 * 0x100000
 unfoldable pub told : ℕ → ℕ → ℕ
 told number datum = replyWord (shownAs number datum Physical.Nowhere)
 
--- the answer to words that are no unit
+-- the answer to words that don't hold a unit
 unfoldable pub noUnit : ℕ
 noUnit = told 70 0
 

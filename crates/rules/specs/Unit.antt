@@ -9,7 +9,7 @@ use Rattle.rules.specs.Types.{Ktcs, Fetch, Wait, Core, Cell, Cells, Unit
 abbrev pub cellCount : ℕ
 cellCount = 8
 
--- how many registers there are into which a store does no more than that: KTIC, KTSP, KTPC, KTPS, KTAD and KTDT
+-- how many registers with no side effect there are: KTIC, KTSP, KTPC, KTPS, KTAD and KTDT
 abbrev pub keptCount : ℕ
 keptCount = 6
 

@@ -48,8 +48,7 @@ pub enum Wait {
     SecondReadDue,
 }
 
-// How many registers there are into which a store does no more than that: KTIC, KTSP, KTPC, KTPS, KTAD and KTDT, in the order of their
-// addresses.
+// How many registers with no side effect there are: KTIC, KTSP, KTPC, KTPS, KTAD and KTDT, in the order of their addresses.
 pub const KEPT: usize = 6;
 
 // All of the unit but the map registers and the cells. The unit with no cells has this and the map registers alone.
