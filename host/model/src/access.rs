@@ -94,7 +94,7 @@ impl Request {
         matches!(self.operation, Operation::Dato | Operation::Datob)
     }
 
-    /// "the store's data ... else 0"; all 16 bits, also of a DATOB.
+    /// "the store's data .. else 0"; all 16 bits, also of a DATOB.
     fn stored_data(&self) -> u16 {
         if self.stores() {
             self.data

@@ -80,7 +80,7 @@ pub fn route(ktum: u16, ktem: u16, user: bool, page: u16) -> Route {
     } else if page < simple_pages(ktem) {
         Route::ExecSimple(page_base(ktem) + high)
     } else {
-        // "no 256": the exec-per-process words are in the low half.
+        // "word at 512·M(KTUM)+2p": in the low half of the page, where the others add 256.
         Route::ExecPerProcess(page_base(ktum) + 2 * u32::from(page))
     }
 }

@@ -208,7 +208,7 @@ impl Unit {
         Kind::of(last) == Kind::Trap && Kind::of(before) == Kind::Trap
     }
 
-    /// "IU takes UM; UM clears; fetch memory clears; the unit waits for two SERVICE DATOs."
+    /// "IU takes UM; UM clears; .. fetch memory clears; the unit waits for two SERVICE DATOs."
     pub(crate) fn enter_exec(&mut self) {
         let iu = if self.user_mode() { IU } else { 0 };
         self.ktcs = (self.ktcs & !(IU | UM)) | iu;

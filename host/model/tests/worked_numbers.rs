@@ -1,10 +1,13 @@
-//! The worked numbers of 01, starred or not, and its bench listing to the byte.
+//! The worked numbers of 01, starred or not, its bench program's lines, and the map page that tools get.
 
 mod common;
 
 use common::{bare, bench, done, Rig};
 use kt11b_model::{map_page, pointed_place, route, simple_pages, Route, Unit};
 
+const HEADER: &str = "CALL\tANS\tDATA\tPHYS\tKTCS\n";
+
+/// "KTUM 004005o (N=4): user page 3 word at 005406o; * page 4 pointer at 005410o; * pointer 003007o leads to 007406o."
 #[test]
 fn ktum_004005_has_four_simple_pages() {
     assert_eq!(simple_pages(0o004005), 4);
@@ -13,6 +16,8 @@ fn ktum_004005_has_four_simple_pages() {
     assert_eq!(pointed_place(0o003007), 0o007406);
 }
 
+/// "User simple: word at 512·M(KTUM)+256+2p."
+/// "Other user pages: the word at that same place is a pointer"
 #[test]
 fn a_user_gets_to_pages_3_and_4_by_those_places() {
     let mut rig = Rig::user();
@@ -21,12 +26,14 @@ fn a_user_gets_to_pages_3_and_4_by_those_places() {
     assert_eq!(rig.unit.tags()[..2], [0o203, 0o204]);
 }
 
+/// "KTEM N=4, M=1: exec page 3 at 001406o; * exec page 4, with the KTUM above, at 005010o."
 #[test]
 fn ktem_with_n_4_and_m_1() {
     assert_eq!(route(0o004005, 0o004001, false, 3), Route::ExecSimple(0o001406));
     assert_eq!(route(0o004005, 0o004001, false, 4), Route::ExecPerProcess(0o005010));
 }
 
+/// "KTEM M=1: * exec 000777o is 001777o; * exec 001000o is walked."
 #[test]
 fn exec_000777_is_001777_and_001000_is_walked() {
     let mut rig = Rig::exec();
@@ -37,6 +44,7 @@ fn exec_000777_is_001777_and_001000_is_walked() {
     assert_eq!(rig.unit.counter(), 0o11);
 }
 
+/// "Unpaged byte DATI 157777o stays; * 160000o is 760000o."
 #[test]
 fn unpaged_157777_stays_and_160000_goes_up() {
     let mut rig = Rig::new();
@@ -45,6 +53,8 @@ fn unpaged_157777_stays_and_160000_goes_up() {
     assert_eq!(rig.read(0o177600), done(0, 0o777600));
 }
 
+/// "L=0: * unpaged 0 times out. L=65,536 unpaged: the last word below 160000o is fine. L=4: 2 is fine, * 4 times out."
+/// "its length L is even, at most 253,952 (760000o)"
 #[test]
 fn lengths_of_memory() {
     let mut unit = Unit::fresh();
@@ -61,6 +71,7 @@ fn lengths_of_memory() {
     assert_eq!(unit.access(&mut [0; 3], 0, 2, 0, 0, 0), bare(1));
 }
 
+/// "The counter after 17o is 10o: the ninth walk refills the first cell."
 #[test]
 fn the_ninth_walk_refills_the_first_cell() {
     let mut rig = Rig::exec();
@@ -80,6 +91,7 @@ fn the_ninth_walk_refills_the_first_cell() {
     assert_eq!(rig.unit.counter(), 0o11);
 }
 
+/// "Input:" and "Output, whole:"
 #[test]
 fn bench_listing() {
     let input = b"W\t001402\t160002\nW\t002004\t000123\nA\t2\t2\t0\t177616\t177001\n\
@@ -89,6 +101,46 @@ fn bench_listing() {
     assert_eq!(bench(input), output);
 }
 
+/// "A bad line prints `BAD`, tab, its decimal line number." The header is printed for an empty input too; an empty line and
+/// a carriage return are bad.
+#[test]
+fn bad_lines_are_told_and_the_last_line_needs_no_newline() {
+    assert_eq!(bench(b""), HEADER);
+    assert_eq!(bench(b"\n"), format!("{HEADER}BAD\t1\n"));
+    assert_eq!(bench(b"X\r\n"), format!("{HEADER}BAD\t1\n"));
+    assert_eq!(bench(b"X"), format!("{HEADER}1\t0\t000000\t-\t000000\n"));
+    assert_eq!(
+        bench(b"X\n\nX"),
+        format!("{HEADER}1\t0\t000000\t-\t000000\nBAD\t2\n2\t0\t000000\t-\t000000\n")
+    );
+}
+
+/// "Numbers are 1-6 octal digits up to 177777."
+/// "Each call prints its decimal number, answer, data, physical (six digits each, or `-`) and KTCS."
+#[test]
+fn numbers_of_bench_lines_and_of_calls() {
+    let input = b"T\t5\nA\t4\t2\t0\t0\t0\nT\t8\nA\t0\t2\t0\t0000000\t0\nW\t200000\t0\nW\t1\t0\n\
+        I\t\n I\nX\t0\nT\t000034\nI\n";
+    let expected = "CALL\tANS\tDATA\tPHYS\tKTCS\n1\t1\t000000\t-\t000000\n\
+        2\t1\t000000\t-\t000000\nBAD\t3\nBAD\t4\nBAD\t5\nBAD\t6\nBAD\t7\nBAD\t8\nBAD\t9\n\
+        3\t0\t000000\t-\t000000\n4\t0\t000000\t-\t000000\n";
+    assert_eq!(bench(input), expected);
+}
+
+/// "`W` address value (even, one memory word)"; "A hit uses the cell."
+#[test]
+fn a_w_line_leaves_the_cells_alone() {
+    let input = b"W\t1402\t160002\nW\t2000\t7\nW\t3000\t11\nA\t2\t2\t0\t177616\t1\n\
+        A\t2\t3\t0\t177576\t2\nA\t0\t3\t0\t1000\t0\nW\t1402\t160003\nA\t0\t3\t0\t1000\t0\n";
+    let expected = "CALL\tANS\tDATA\tPHYS\tKTCS\n1\t0\t000000\t777616\t000000\n\
+        2\t0\t000000\t777576\t000002\n3\t0\t000007\t002000\t000002\n\
+        4\t0\t000007\t002000\t000002\n";
+    assert_eq!(bench(input), expected);
+}
+
+/// "Emptying cells for KTUM and forgetting KTEM, or only on word stores."
+/// "Treating user page 0 as exec page 0."
+/// "Checking the write key on DATO and not on DATIP."
 #[test]
 fn errors_that_look_right() {
     // Only word stores, or only KTUM: both registers by byte empty the cells.
@@ -107,6 +159,7 @@ fn errors_that_look_right() {
     assert_eq!(rig.access([1, 3, 0], 0o003000, 0), bare(6));
 }
 
+/// "A fresh unit is all zero, then INIT."
 #[test]
 fn fresh_is_all_zero_then_init() {
     let unit = Unit::fresh();
@@ -115,6 +168,7 @@ fn fresh_is_all_zero_then_init() {
     assert_eq!(unit.fetch_memory(), Default::default());
 }
 
+/// "INIT clears KTCS, the wait, the fetch memory and the cells, and sets the counter to 10o; other registers stay (H)."
 #[test]
 fn init_leaves_the_eight_registers() {
     let mut rig = Rig::exec();
@@ -127,6 +181,7 @@ fn init_leaves_the_eight_registers() {
     assert_eq!(registers[4..], [0o001001, 0, 0o004005, 0o000001]);
 }
 
+/// The unit that `host/bench` times beside the other; 01 has none without cells.
 #[test]
 fn the_unit_without_cells_walks_each_time() {
     let mut rig = Rig::mapped();
@@ -139,9 +194,22 @@ fn the_unit_without_cells_walks_each_time() {
     assert_eq!((rig.unit.tags(), rig.unit.counter()), ([0; 8], 0o10));
 }
 
+/// "get the page a map register names as a part of the caller's memory"
 #[test]
 fn a_map_page_is_a_part_of_the_memory() {
     let memory = vec![0u8; 0o3000];
     assert_eq!(map_page(&memory, 0o177001).len(), 512);
     assert!(std::ptr::eq(map_page(&memory, 0o000001), &memory[0o1000..0o2000]));
+}
+
+/// "or an empty part if it isn't wholly below L"
+#[test]
+fn a_map_page_is_empty_unless_wholly_below_the_end() {
+    let memory = vec![0u8; 0o2776];
+    assert_eq!(map_page(&memory, 0o004001).len(), 512);
+    assert!(map_page(&memory, 0o004002).is_empty());
+    assert!(map_page(&memory, 0o000777).is_empty());
+    assert!(map_page(&[], 0).is_empty());
+    let unit = Unit::fresh();
+    assert_eq!(map_page(&memory, unit.registers()[6]).len(), 512);
 }

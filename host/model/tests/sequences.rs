@@ -1,9 +1,10 @@
-//! READINGS 33 to 44: sequences, and the bench program. Expected values are worked out by hand.
+//! Sequences: violations, the wait for two stores, interrupts, traps and the start of a user.
+//! Expected values are worked out by hand from 01's words, which stand above each test.
 
 mod common;
 
-use common::{bare, bench, done, Rig};
-use kt11b_model::{map_page, FetchMemory, Reply, Unit};
+use common::{bare, done, Rig};
+use kt11b_model::{FetchMemory, Reply};
 
 fn start(data: u16) -> Reply {
     Reply { answer: 0, data, physical: None }
@@ -17,8 +18,11 @@ fn trap_loop() -> Rig {
     rig
 }
 
+/// "the unit waits for two SERVICE DATOs. The first puts data in KTPS; the second puts address in KTSP and data in
+/// KTPC. Memory and cells stay."
+/// Answer 2: "while waiting, another call than the one due (INIT excepted)"
 #[test]
-fn r33_service_stores() {
+fn only_the_due_service_stores_are_taken_in_a_wait() {
     let mut rig = Rig::exec();
     rig.read(0o001001);
     let before = rig.unit;
@@ -35,8 +39,10 @@ fn r33_service_stores() {
     assert_eq!((rig.word(0o001776), rig.word(0o001774)), (0o160777, 0));
 }
 
+/// "its flag is set (9 has none), KTAD takes the virtual address (for the inner window access KTAD stays), KTDT the
+/// store's data or, for 8, the fetched word, else 0"
 #[test]
-fn r34_ktdt_and_piled_flags() {
+fn ktdt_after_each_violation_and_flags_that_pile_up() {
     let mut rig = Rig::exec();
     assert_eq!(rig.write_quietly(0o003000, 0o000123), bare(6));
     assert_eq!(rig.ktdt(), 0o000123);
@@ -56,8 +62,19 @@ fn r34_ktdt_and_piled_flags() {
     assert_eq!((rig.ktad(), rig.ktdt(), rig.ktcs()), (0, 0o000005, 0o100042));
 }
 
+/// "KTDT the store's data"; "the low 8 bits of data" is said of what a DATOB writes.
 #[test]
-fn r35_iu_takes_um() {
+fn ktdt_takes_all_bits_of_a_refused_datob() {
+    let mut rig = Rig::exec();
+    assert_eq!(rig.write_byte(0o003001, 0o123456), bare(6));
+    assert_eq!(rig.ktdt(), 0o123456);
+    assert_eq!(rig.ktcs(), 0o020002);
+}
+
+/// "Interrupt: IU takes UM; from user mode UM clears, fetch memory clears, and the same wait begins."
+/// "Trap from exec changes nothing."
+#[test]
+fn iu_takes_um_by_interrupt_and_violation_and_stays_by_a_trap_in_exec() {
     let mut rig = Rig::user();
     assert_eq!(rig.unit.interrupt(), bare(0));
     assert_eq!((rig.ktcs(), rig.unit.wait_number()), (0o000042, 1));
@@ -72,8 +89,9 @@ fn r35_iu_takes_um() {
     assert_eq!(rig.ktcs(), 0o040002);
 }
 
+/// "IU takes UM; UM clears"; "for the inner window access KTAD stays"
 #[test]
-fn r35_an_inner_fault_uses_the_real_um() {
+fn a_windows_inner_fault_takes_the_real_um() {
     let mut rig = Rig::exec();
     rig.write(0o177610, 0o000001);
     rig.read(0o177572);
@@ -84,8 +102,9 @@ fn r35_an_inner_fault_uses_the_real_um() {
     assert_eq!((rig.ktcs(), rig.ktad()), (0o040052, 0o000001));
 }
 
+/// "unpaged: step 4, KTAD, KTDT"
 #[test]
-fn r36_an_unpaged_time_out_of_a_user() {
+fn an_unpaged_time_out_of_a_user_begins_no_sequence() {
     let mut rig = Rig::user();
     rig.fetch_word(0o010000, 0o000000, 0o010101);
     rig.write_quietly(0o002576, 0);
@@ -97,8 +116,10 @@ fn r36_an_unpaged_time_out_of_a_user() {
     assert_eq!(rig.unit.fetch_memory(), expected);
 }
 
+/// "from user mode UM clears"; "Trap from user mode: the same"
+/// The words are judged by "Word rule, paged fetches", so HALT passes unpaged.
 #[test]
-fn r37_from_user_mode_is_um() {
+fn from_user_mode_is_um_whatever_fcn_is() {
     let mut rig = Rig::user();
     rig.write_quietly(0o002576, 0);
     assert_eq!(rig.fetch(0o020000), done(0, 0o020000));
@@ -110,8 +131,9 @@ fn r37_from_user_mode_is_um() {
     assert_eq!((rig.ktcs(), rig.unit.wait_number()), (0o000041, 1));
 }
 
+/// "except vector 34o when the last two fetched words are not both TRAP; that changes nothing"
 #[test]
-fn r38_trap_34() {
+fn trap_34_asks_both_words() {
     let mut rig = trap_loop();
     assert_eq!(rig.unit.trap(0o34), bare(0));
     assert_eq!((rig.ktcs(), rig.unit.wait_number()), (0o000042, 1));
@@ -127,8 +149,10 @@ fn r38_trap_34() {
     assert_eq!(rig.unit.wait_number(), 1);
 }
 
+/// "Fetch memory: the last two fetched words"; "A fetch with answer 0 updates it"
+/// "Trap from exec changes nothing."
 #[test]
-fn r38_unpaged_and_register_fetches_count() {
+fn unpaged_and_register_fetches_count_for_trap_34() {
     let mut rig = Rig::user();
     rig.write_quietly(0o002604, 0o104444);
     assert_eq!(rig.fetch(0o002604), done(0o104444, 0o777604));
@@ -156,8 +180,10 @@ fn starting() -> Rig {
     rig
 }
 
+/// "FCN 3: the next two accesses other than a fetch must be word DATIs. They give KTPC, then KTPS, address ignored; the
+/// second sets UM, FCN 2 and clears fetch memory. Fetches may come before the first and not between."
 #[test]
-fn r39_start_reads() {
+fn the_two_start_reads_are_word_datis_in_any_state_at_any_address() {
     let mut rig = starting();
     let before = rig.unit;
     assert_eq!(rig.access([1, 2, 0], 0, 0), bare(2));
@@ -176,8 +202,10 @@ fn r39_start_reads() {
     assert_eq!(rig.unit.fetch_memory(), FetchMemory::default());
 }
 
+/// "Fetches may come before the first and not between."; ""Normal paging" is FCN 2, and FCN 3 for a fetch."
+/// After a violation "FCN 3 becomes 2".
 #[test]
-fn r39_a_fetch_before_the_first() {
+fn a_fetch_before_the_first_start_read_is_normal_paging() {
     let mut rig = starting();
     rig.fetch_word(0o002004, 0o001004, 0o000002);
     assert_eq!((rig.ktcs(), rig.ktic()), (0o000003, 0o001004));
@@ -189,8 +217,10 @@ fn r39_a_fetch_before_the_first() {
     assert_eq!((rig.ktcs(), rig.unit.wait_number()), (0o004002, 1));
 }
 
+/// Answer 2: "FCN 3: interrupt, trap, or an access neither a fetch nor a word DATI"
+/// A fetch is still judged: "user HALT 0, WAIT 1, RESET 5".
 #[test]
-fn r39_a_user_who_stores_fcn_3() {
+fn a_user_who_stores_fcn_3() {
     let mut rig = Rig::user();
     rig.write_quietly(0o002576, 3);
     assert_eq!(rig.ktcs(), 0o000023);
@@ -201,8 +231,10 @@ fn r39_a_user_who_stores_fcn_3() {
     assert_eq!((rig.ktcs(), rig.unit.wait_number()), (0o100042, 1));
 }
 
+/// "In every call 1 comes before 2"
+/// INIT: "It is always accepted."
 #[test]
-fn r40_1_before_2() {
+fn answer_1_comes_before_answer_2() {
     let mut rig = Rig::exec();
     rig.read(0o001001);
     let before = rig.unit;
@@ -217,8 +249,10 @@ fn r40_1_before_2() {
     assert_eq!(rig.ktcs(), 0);
 }
 
+/// "A fetch with answer 0 updates it (counts go to 0, the flag to the page's public bit); the flag only in normal paging"
+/// "from user mode UM clears, fetch memory clears": an interrupt in exec leaves it; a violation and "INIT" clear it.
 #[test]
-fn r41_what_moves_the_flag() {
+fn what_moves_the_public_flag_and_what_clears_it() {
     // Kept through unpaged fetches.
     let mut rig = Rig::exec_from_public();
     rig.write_quietly(0o177576, 0);
@@ -243,8 +277,9 @@ fn r41_what_moves_the_flag() {
     assert_eq!(rig.unit.fetch_memory(), FetchMemory::default());
 }
 
+/// "from user mode UM clears, fetch memory clears, and the same wait begins. Trap from user mode: the same"
 #[test]
-fn r41_a_user_loses_it_by_interrupt_and_trap() {
+fn an_interrupt_and_a_trap_from_user_mode_clear_the_fetch_memory() {
     for trap in [false, true] {
         let mut rig = Rig::user();
         rig.fetch_word(0o010000, 0o000000, 0o010101);
@@ -255,8 +290,10 @@ fn r41_a_user_loses_it_by_interrupt_and_trap() {
     }
 }
 
+/// "Answers 0 and 8 of an access give the physical address"; data "for 8 the word"
+/// "user HALT 0": exec may fetch it.
 #[test]
-fn r42_physical_only_for_0_and_8() {
+fn answers_0_and_8_give_the_physical_address() {
     let mut rig = Rig::exec_from_public();
     rig.put(0o003000, 0o010101);
     let expected = Reply { answer: 8, data: 0o010101, physical: Some(0o003000) };
@@ -266,35 +303,4 @@ fn r42_physical_only_for_0_and_8() {
     // Exec may fetch HALT.
     let mut rig = Rig::exec();
     assert_eq!(rig.fetch(0o001000), done(0, 0o002000));
-}
-
-#[test]
-fn r43_bench_numbers() {
-    let input = b"T\t5\nA\t4\t2\t0\t0\t0\nT\t8\nA\t0\t2\t0\t0000000\t0\nW\t200000\t0\nW\t1\t0\n\
-        I\t\n I\nX\t0\nT\t000034\nI\n";
-    let expected = "CALL\tANS\tDATA\tPHYS\tKTCS\n1\t1\t000000\t-\t000000\n\
-        2\t1\t000000\t-\t000000\nBAD\t3\nBAD\t4\nBAD\t5\nBAD\t6\nBAD\t7\nBAD\t8\nBAD\t9\n\
-        3\t0\t000000\t-\t000000\n4\t0\t000000\t-\t000000\n";
-    assert_eq!(bench(input), expected);
-}
-
-#[test]
-fn r43_w_leaves_cells_alone() {
-    let input = b"W\t1402\t160002\nW\t2000\t7\nW\t3000\t11\nA\t2\t2\t0\t177616\t1\n\
-        A\t2\t3\t0\t177576\t2\nA\t0\t3\t0\t1000\t0\nW\t1402\t160003\nA\t0\t3\t0\t1000\t0\n";
-    let expected = "CALL\tANS\tDATA\tPHYS\tKTCS\n1\t0\t000000\t777616\t000000\n\
-        2\t0\t000000\t777576\t000002\n3\t0\t000007\t002000\t000002\n\
-        4\t0\t000007\t002000\t000002\n";
-    assert_eq!(bench(input), expected);
-}
-
-#[test]
-fn r44_the_map_page() {
-    let memory = vec![0u8; 0o2776];
-    assert_eq!(map_page(&memory, 0o004001).len(), 512);
-    assert!(map_page(&memory, 0o004002).is_empty());
-    assert!(map_page(&memory, 0o000777).is_empty());
-    assert!(map_page(&[], 0).is_empty());
-    let unit = Unit::fresh();
-    assert_eq!(map_page(&memory, unit.registers()[6]).len(), 512);
 }

@@ -1,12 +1,15 @@
-//! READINGS 18 to 32: walk, cells, keys, registers and addresses. Expected values are worked out by hand.
+//! From address to entry: maps, cells and keys; then the registers and the window.
+//! Expected values are worked out by hand from 01's words, which stand above each test.
 
 mod common;
 
 use common::{bare, done, Rig};
 use kt11b_model::FetchMemory;
 
+/// "Exec page 0: physical page M of KTEM, no cell, every key passes."
+/// "exec page 0 counts as private and is never judged for privacy or entry point"
 #[test]
-fn r18_exec_page_0_is_never_judged() {
+fn exec_page_0_has_no_cell_and_is_never_judged() {
     // No entry point asked for, and the flag becomes 0.
     let mut rig = Rig::exec_from_public();
     rig.fetch_word(0o001010, 0o000010, 0o010203);
@@ -20,8 +23,10 @@ fn r18_exec_page_0_is_never_judged() {
     assert_eq!(rig.unit.tags(), [1, 0, 0, 0, 0, 0, 0, 0]);
 }
 
+/// "Exec page 0: physical page M of KTEM"; "10. Target at or beyond L and not a register above (9)."
+/// The flag moves "never from a KT register".
 #[test]
-fn r18_exec_page_0_beyond_memory_and_at_the_registers() {
+fn exec_page_0_beyond_memory_and_at_the_registers() {
     let mut rig = Rig::exec();
     rig.write(0o177616, 0o000200);
     assert_eq!(rig.read_quietly(0o000010), bare(9));
@@ -37,8 +42,10 @@ fn r18_exec_page_0_beyond_memory_and_at_the_registers() {
     assert!(rig.unit.fetch_memory().public);
 }
 
+/// "Tag: 128 for user plus p; 0 means empty."
+/// A window "goes on as a user access to KTAD".
 #[test]
-fn r19_user_page_0_has_tag_128_in_a_window_too() {
+fn user_page_0_has_tag_128_in_a_window_too() {
     let mut rig = Rig::exec();
     assert_eq!(rig.read(0o177572), done(0, 0o010000));
     assert_eq!(rig.unit.tags()[..2], [0o177, 0o200]);
@@ -46,8 +53,10 @@ fn r19_user_page_0_has_tag_128_in_a_window_too() {
     assert_eq!(rig.ktcs() & 0o000020, 0);
 }
 
+/// "A finished walk fills the cell the counter names, then the counter steps 10o to 17o and round"
+/// After answer 5 "the cell of the page at fault .. empties"; the counter has stepped.
 #[test]
-fn r20_a_page_not_resident_fills_and_is_emptied() {
+fn a_page_not_resident_fills_a_cell_which_then_empties() {
     let mut rig = Rig::exec();
     assert_eq!(rig.read(0o004000), bare(5));
     assert_eq!((rig.unit.tags()[0], rig.unit.words()[0], rig.unit.counter()), (0, 0, 0o11));
@@ -57,8 +66,10 @@ fn r20_a_page_not_resident_fills_and_is_emptied() {
     assert_eq!(rig.unit.counter(), 0o12);
 }
 
+/// "A map word or pointer at or beyond L is a time-out."
+/// "A walk that times out fills nothing."
 #[test]
-fn r21_a_walk_that_times_out() {
+fn a_walk_that_times_out_fills_nothing_and_does_not_step() {
     let mut rig = Rig::exec();
     rig.write(0o177616, 0o000777);
     assert_eq!(rig.read(0o001000), bare(9));
@@ -70,8 +81,9 @@ fn r21_a_walk_that_times_out() {
     assert_eq!((rig.unit.tags(), rig.unit.counter()), ([0; 8], 0o10));
 }
 
+/// "A hit uses the cell."
 #[test]
-fn r21_a_hit_never_times_out_at_step_6() {
+fn a_hit_never_times_out_at_step_6() {
     let mut rig = Rig::exec();
     rig.put(0o100402, 0o160002);
     rig.write(0o177616, 0o000100);
@@ -81,8 +93,10 @@ fn r21_a_hit_never_times_out_at_step_6() {
     assert_eq!(rig.read(0o002000), bare(9));
 }
 
+/// "Other exec pages: word at 512·M(KTUM)+2p."
+/// "N=0 counts as 128; pages below N are simple (source 3.3.2.2)."
 #[test]
-fn r22_n_and_the_place_of_exec_pages_beyond_it() {
+fn exec_pages_from_n_on_are_read_in_ktums_page() {
     let mut rig = Rig::exec();
     rig.put(0o005002, 0o160030);
     rig.write(0o177616, 0o001001);
@@ -96,8 +110,9 @@ fn r22_n_and_the_place_of_exec_pages_beyond_it() {
     assert_eq!(rig.read(0o177572), done(0, 0o031000));
 }
 
+/// "the word at that same place is a pointer, high 7 bits n, low 9 bits m; the map word is at 512·m+256+2n"
 #[test]
-fn r23_a_pointer_has_no_keys() {
+fn a_pointer_has_no_keys() {
     let mut rig = Rig::user();
     assert_eq!(rig.write(0o004000, 1), done(0, 0o013000));
     assert_eq!(rig.unit.words()[0], 0o160013);
@@ -108,8 +123,9 @@ fn r23_a_pointer_has_no_keys() {
     assert_eq!(rig.write(0o004000, 1), bare(6));
 }
 
+/// "Any of answers 4-8, or a paged 9: .. the cell of the page at fault .. empties"; answer 4 comes before "6. Walk (9)."
 #[test]
-fn r24_answer_4_empties_the_cell() {
+fn an_odd_word_empties_the_pages_cell() {
     let mut rig = Rig::exec();
     rig.read(0o001000);
     assert!(rig.holds(1));
@@ -117,8 +133,9 @@ fn r24_answer_4_empties_the_cell() {
     assert_eq!((rig.unit.tags(), rig.unit.counter()), ([0; 8], 0o11));
 }
 
+/// "7. Residency (5). 8. Write key for operations 1-3 (6). 9. Privacy (7). 10. Target at or beyond L and not a register above (9)."
 #[test]
-fn r25_order_of_the_keys() {
+fn residency_then_write_key_then_privacy_then_target() {
     let mut rig = Rig::exec_from_public();
     rig.put(0o001410, 0o000006);
     assert_eq!(rig.write_quietly(0o004000, 0), bare(5));
@@ -133,8 +150,9 @@ fn r25_order_of_the_keys() {
     assert_eq!(rig.write_quietly(0o004000, 0), bare(9));
 }
 
+/// "8. Write key for operations 1-3 (6)."; a window goes "through steps 5-8 and 10 again".
 #[test]
-fn r25_datip_on_both_pages_of_a_window() {
+fn a_datip_asks_both_pages_of_a_window_for_the_write_key() {
     let mut rig = Rig::exec();
     rig.write(0o177610, 0o003000);
     assert_eq!(rig.access([1, 3, 0], 0o177572, 0), bare(6));
@@ -150,8 +168,18 @@ fn r25_datip_on_both_pages_of_a_window() {
     assert_eq!(rig.word(0o002000), 0o000077);
 }
 
+/// "8-0 physical page; 12-9 ignored"; the cell and its "scratchpad word" keep all 16 bits.
 #[test]
-fn r26_equal_value_by_byte_through_a_window() {
+fn bits_12_to_9_of_a_map_word_are_ignored_and_kept() {
+    let mut rig = Rig::exec();
+    rig.put(0o001402, 0o177002);
+    assert_eq!(rig.read(0o001004), done(0, 0o002004));
+    assert_eq!(rig.read(0o177620), done(0o177002, 0o777620));
+}
+
+/// "A store into KTUM or KTEM, byte or word, empties all cells and sets the counter to 10o."
+#[test]
+fn an_equal_byte_of_ktum_through_a_window_empties_all_cells() {
     let mut rig = Rig::exec();
     rig.write(0o177610, 0o002615);
     assert_eq!(rig.write_byte(0o177572, 0o000010), done(0, 0o777615));
@@ -160,8 +188,10 @@ fn r26_equal_value_by_byte_through_a_window() {
     assert_eq!(rig.unit.counter(), 0o10);
 }
 
+/// "A store into a scratchpad word leaves the tag, and does nothing in an empty cell (H)."
+/// "Other registers take words and bytes."
 #[test]
-fn r27_scratchpad_words() {
+fn scratchpad_words_of_held_and_of_empty_cells() {
     let mut rig = Rig::exec();
     rig.read(0o001000);
     rig.write(0o177576, 0);
@@ -178,16 +208,19 @@ fn r27_scratchpad_words() {
     assert_eq!(rig.read(0o177636), done(0, 0o777636));
 }
 
+/// "A hit uses the cell."
 #[test]
-fn r27_a_changed_scratchpad_word_is_used() {
+fn a_changed_scratchpad_word_is_used() {
     let mut rig = Rig::exec();
     rig.read(0o001000);
     rig.write(0o177620, 0o160025);
     assert_eq!(rig.read(0o001002), done(0, 0o025002));
 }
 
+/// "Any store into it, byte or word, clears IU and bits 15-11; a store that covers bits 1-0 sets FCN. Nothing else
+/// there is writable."
 #[test]
-fn r28_stores_into_ktcs() {
+fn stores_into_ktcs_by_byte_and_by_word() {
     // IU and AV stand after a user's violation; SS and DS are set first.
     let mut rig = Rig::user();
     rig.access([0, 1, 0], 0o000000, 0);
@@ -207,8 +240,10 @@ fn r28_stores_into_ktcs() {
     assert_eq!(rig.unit.fetch_memory(), expected);
 }
 
+/// "KTMR reads the counter times 256; stores into it are accepted and do nothing."
+/// "10. Target at or beyond L and not a register above (9)."
 #[test]
-fn r29_ktmr_and_the_neighbours() {
+fn ktmr_is_a_word_and_its_neighbours_are_no_registers() {
     let mut rig = Rig::new();
     assert_eq!(rig.read(0o177574), done(0o004000, 0o777574));
     assert_eq!(rig.access([0, 2, 1], 0o177575, 0), done(0o004000, 0o777575));
@@ -219,8 +254,9 @@ fn r29_ktmr_and_the_neighbours() {
     assert_eq!(rig.read(0o177640), bare(9));
 }
 
+/// "Reads give the whole word at the even address. DATOB writes the low 8 bits of data."
 #[test]
-fn r30_bytes() {
+fn a_byte_read_gives_the_word_and_an_odd_datob_goes_to_the_high_byte() {
     let mut rig = Rig::new();
     rig.put(0o001000, 0o123456);
     assert_eq!(rig.access([0, 2, 1], 0o001001, 0), done(0o123456, 0o001001));
@@ -232,8 +268,9 @@ fn r30_bytes() {
     assert_eq!(rig.ktsp(), (0o125 << 8) | 0o056);
 }
 
+/// "a paged access whose target is 777572o or 777573o goes on as a user access to KTAD"
 #[test]
-fn r31_ktad_alone_chooses_the_byte() {
+fn ktad_alone_chooses_the_windows_byte() {
     let mut rig = Rig::exec();
     rig.put(0o010000, 0o123456);
     assert_eq!(rig.write_byte(0o177573, 0o000001), done(0, 0o010000));
@@ -243,8 +280,10 @@ fn r31_ktad_alone_chooses_the_byte() {
     assert_eq!(rig.word(0o010000), 0o001001);
 }
 
+/// "Window: a paged access whose target is 777572o or 777573o goes on as a user access to KTAD"
+/// "Unpaged, by fetch, or window on window: time-out at step 10."
 #[test]
-fn r31_the_window_in_other_modes() {
+fn the_window_in_fcn_1_in_user_mode_and_onto_a_register() {
     let mut rig = Rig::mapped();
     rig.write(0o177576, 1);
     assert_eq!(rig.read(0o177572), done(0, 0o010000));
@@ -256,8 +295,9 @@ fn r31_the_window_in_other_modes() {
     assert_eq!(rig.ktcs(), 0o000032);
 }
 
+/// "goes on as a user access to KTAD, through steps 5-8 and 10 again": step 4 is not among them.
 #[test]
-fn r31_step_4_runs_once() {
+fn step_4_runs_once_in_a_windows_access() {
     let mut rig = Rig::exec();
     rig.fetch_word(0o002000, 0o001000, 0o000002);
     assert_eq!(rig.read_quietly(0o177572), done(0, 0o010000));
@@ -265,8 +305,49 @@ fn r31_step_4_runs_once() {
     assert_eq!(rig.ktcs(), 0o000006);
 }
 
+/// "the cell of the page at fault (a window's inner one once reached) empties"
+/// "for the inner window access KTAD stays"
 #[test]
-fn r32_the_window_by_fetch_and_unpaged() {
+fn an_odd_ktad_by_word_has_the_inner_page_at_fault() {
+    let mut rig = Rig::exec();
+    assert_eq!(rig.read(0o177572), done(0, 0o010000));
+    assert!(rig.holds(0o200));
+    rig.write(0o177610, 0o000001);
+    assert_eq!(rig.read(0o177572), bare(4));
+    assert!(rig.holds(0o177) && !rig.holds(0o200));
+    assert_eq!((rig.ktad(), rig.ktcs()), (0o000001, 0o040012));
+}
+
+/// "Unpaged, by fetch, or window on window: time-out at step 10."
+/// "the cell of the page at fault (a window's inner one once reached) empties"
+#[test]
+fn window_on_window_times_out_with_the_inner_page_at_fault() {
+    let mut rig = Rig::exec();
+    rig.write(0o177610, 0o002572);
+    assert_eq!(rig.read(0o177572), bare(9));
+    assert!(rig.holds(0o177) && !rig.holds(0o202));
+    assert_eq!((rig.ktad(), rig.unit.counter()), (0o002572, 0o12));
+    assert_eq!((rig.ktcs(), rig.unit.wait_number()), (0o000012, 1));
+}
+
+/// "goes on as a user access to KTAD, through steps 5-8 and 10 again and with no privacy step"
+#[test]
+fn the_outer_page_alone_is_judged_for_privacy_before_the_inner_steps() {
+    let mut rig = Rig::exec_from_public();
+    rig.put(0o001776, 0o120777);
+    assert_eq!(rig.read_quietly(0o177572), bare(7));
+    assert_eq!((rig.ktad(), rig.unit.counter()), (0o177572, 0o12));
+    assert!(!rig.holds(0o177) && !rig.holds(0o200));
+    // The inner page itself is not judged for privacy.
+    let mut rig = Rig::exec_from_public();
+    rig.write_quietly(0o177610, 0o001002);
+    assert_eq!(rig.read_quietly(0o177572), done(0, 0o011002));
+}
+
+/// "Unpaged, by fetch, or window on window: time-out at step 10."
+/// By fetch "KTAD takes the virtual address" and the outer page is at fault; unpaged a 9 leaves "step 4, KTAD, KTDT".
+#[test]
+fn the_window_by_fetch_and_unpaged_times_out() {
     let mut rig = Rig::exec();
     assert_eq!(rig.fetch(0o177572), bare(9));
     assert_eq!((rig.ktad(), rig.ktic()), (0o177572, 0o177572));

@@ -1,111 +1,30 @@
-//! READINGS 1 to 17: two readings, step 4, counts, SS and DS. Expected values are worked out by hand.
+//! The order in one access: shapes, step 4 with its counts, KTIC, SS and DS, privacy and the word rule.
+//! Expected values are worked out by hand from 01's words, which stand above each test.
 
 mod common;
 
-use common::{bare, bench, done, Rig};
+use common::{bare, done, Rig};
 use kt11b_model::{FetchMemory, Unit};
 
-const HEADER: &str = "CALL\tANS\tDATA\tPHYS\tKTCS\n";
-
+/// "a number outside its list; DATO as byte, DATOB as word; FETCH not a word DATI"
 #[test]
-fn r01_bench_lines() {
-    assert_eq!(bench(b""), HEADER);
-    assert_eq!(bench(b"\n"), format!("{HEADER}BAD\t1\n"));
-    assert_eq!(bench(b"X\r\n"), format!("{HEADER}BAD\t1\n"));
-    assert_eq!(bench(b"X"), format!("{HEADER}1\t0\t000000\t-\t000000\n"));
-    assert_eq!(
-        bench(b"X\n\nX"),
-        format!("{HEADER}1\t0\t000000\t-\t000000\nBAD\t2\n2\t0\t000000\t-\t000000\n")
-    );
+fn shapes_in_their_lists() {
+    let mut rig = Rig::new();
+    for kind in [[4, 2, 0], [0, 5, 0], [0, 2, 2], [2, 2, 1], [3, 2, 0], [1, 0, 0], [0, 0, 1]] {
+        assert_eq!(rig.access(kind, 0, 0), bare(1));
+    }
+    for kind in [[0, 0, 0], [0, 1, 1], [1, 2, 0], [1, 3, 1], [2, 4, 0], [3, 4, 1]] {
+        assert_eq!(rig.access(kind, 0, 0), done(0, 0));
+    }
+    let mut unit = Unit::fresh();
+    for vector in [0, 1, 5, 0o40, 0o44] {
+        assert_eq!(unit.trap(vector), bare(1));
+    }
 }
 
+/// "a number outside its list": operation, state, width and vector may be of any size.
 #[test]
-fn r02_ktdt_takes_all_bits_of_a_refused_datob() {
-    let mut rig = Rig::exec();
-    assert_eq!(rig.write_byte(0o003001, 0o123456), bare(6));
-    assert_eq!(rig.ktdt(), 0o123456);
-    assert_eq!(rig.ktcs(), 0o020002);
-}
-
-#[test]
-fn r03_odd_ktad_by_word() {
-    let mut rig = Rig::exec();
-    assert_eq!(rig.read(0o177572), done(0, 0o010000));
-    assert!(rig.holds(0o200));
-    rig.write(0o177610, 0o000001);
-    assert_eq!(rig.read(0o177572), bare(4));
-    assert!(rig.holds(0o177) && !rig.holds(0o200));
-    assert_eq!((rig.ktad(), rig.ktcs()), (0o000001, 0o040012));
-}
-
-#[test]
-fn r04_window_on_window() {
-    let mut rig = Rig::exec();
-    rig.write(0o177610, 0o002572);
-    assert_eq!(rig.read(0o177572), bare(9));
-    assert!(rig.holds(0o177) && !rig.holds(0o202));
-    assert_eq!((rig.ktad(), rig.unit.counter()), (0o002572, 0o12));
-    assert_eq!((rig.ktcs(), rig.unit.wait_number()), (0o000012, 1));
-}
-
-#[test]
-fn r05_outer_privacy_comes_before_the_inner_steps() {
-    let mut rig = Rig::exec_from_public();
-    rig.put(0o001776, 0o120777);
-    assert_eq!(rig.read_quietly(0o177572), bare(7));
-    assert_eq!((rig.ktad(), rig.unit.counter()), (0o177572, 0o12));
-    assert!(!rig.holds(0o177) && !rig.holds(0o200));
-    // The inner page itself is not judged for privacy.
-    let mut rig = Rig::exec_from_public();
-    rig.write_quietly(0o177610, 0o001002);
-    assert_eq!(rig.read_quietly(0o177572), done(0, 0o011002));
-}
-
-#[test]
-fn r06_bits_12_to_9_are_ignored_and_kept() {
-    let mut rig = Rig::exec();
-    rig.put(0o001402, 0o177002);
-    assert_eq!(rig.read(0o001004), done(0, 0o002004));
-    assert_eq!(rig.read(0o177620), done(0o177002, 0o777620));
-}
-
-#[test]
-fn r07_privacy_in_fcn_1() {
-    let mut rig = Rig::exec_from_public();
-    rig.write_quietly(0o177576, 1);
-    assert_eq!(rig.read_quietly(0o002000), bare(7));
-    assert_eq!(rig.ktcs(), 0o010001);
-    // The same access unpaged is not judged.
-    let mut rig = Rig::exec_from_public();
-    rig.write_quietly(0o177576, 1);
-    assert_eq!(rig.access([0, 1, 0], 0o002000, 0).answer, 0);
-}
-
-#[test]
-fn r08_fetch_from_a_register() {
-    let mut rig = Rig::exec_from_public();
-    rig.write_quietly(0o177604, 0o104401);
-    assert_eq!(rig.fetch(0o177604), done(0o104401, 0o777604));
-    let expected =
-        FetchMemory { last: 0o104401, before: 0o010101, datos: 0, accesses: 0, public: true };
-    assert_eq!(rig.unit.fetch_memory(), expected);
-    // The word rule: KTPC 0 fetched by a user is HALT.
-    let mut rig = Rig::user();
-    let reply = rig.fetch(0o002604);
-    assert_eq!((reply.answer, reply.data, reply.physical), (8, 0, Some(0o777604)));
-    // KTMR after the walk of user page 2, and KTCS in user mode.
-    let mut rig = Rig::user();
-    assert_eq!(rig.fetch(0o002574), done(0o004400, 0o777574));
-    assert_eq!(rig.fetch(0o002576), done(0o000022, 0o777576));
-    assert!(!rig.unit.fetch_memory().public);
-    // From public to a private register page only at an entry point.
-    let mut rig = Rig::exec_from_public();
-    rig.put(0o001776, 0o120777);
-    assert_eq!(rig.fetch(0o177574).answer, 8);
-}
-
-#[test]
-fn r09_numbers_of_any_size() {
+fn a_number_of_any_size_outside_its_list() {
     let mut rig = Rig::new();
     assert_eq!(rig.access([1 << 40, 2, 0], 0, 0), bare(1));
     assert_eq!(rig.access([0, (1 << 32) + 2, 0], 0, 0), bare(1));
@@ -113,8 +32,10 @@ fn r09_numbers_of_any_size() {
     assert_eq!(rig.unit.trap((1 << 32) + 4), bare(1));
 }
 
+/// "4. Counts since the last fetch; then, if bits 15-11 are clear: KTIC from the address on a paged FETCH; SS and DS."
+/// The access's own store into KTCS comes later: "Then the store."
 #[test]
-fn r10_flags_are_judged_before_the_own_store() {
+fn flags_are_judged_as_they_stand_before_the_own_store() {
     let mut rig = Rig::exec();
     assert_eq!(rig.read_quietly(0o001001), bare(4));
     rig.service();
@@ -128,8 +49,10 @@ fn r10_flags_are_judged_before_the_own_store() {
     assert_eq!(rig.ktcs(), 0o000012);
 }
 
+/// "counts of DATOs and of all non-fetch accesses since (this one included, each stops at 2)"
+/// They are step 4; after 1, 2 and 3 "nothing" changes, and "a due sequence access ends here", at step 2.
 #[test]
-fn r11_what_is_counted() {
+fn what_is_counted_and_what_is_not() {
     let mut rig = Rig::new();
     assert_eq!(rig.access([0, 2, 0], 0o160000, 0), bare(9));
     assert_eq!(rig.unit.fetch_memory().accesses, 1);
@@ -151,8 +74,9 @@ fn r11_what_is_counted() {
     assert_eq!(rig.unit.fetch_memory(), FetchMemory::default());
 }
 
+/// "A fetch with answer 0 updates it"; this one is no "non-fetch" access either.
 #[test]
-fn r12_unpaged_fetch_that_times_out() {
+fn an_unpaged_fetch_that_times_out_leaves_the_fetch_memory() {
     let mut rig = Rig::new();
     rig.fetch_word(0o001000, 0o001000, 0o000207);
     rig.read(0);
@@ -163,8 +87,9 @@ fn r12_unpaged_fetch_that_times_out() {
     assert_eq!((rig.ktad(), rig.ktdt()), (0o160000, 0));
 }
 
+/// "Only DATO counts as DATO; the "second" is the one that takes its count from 1 to 2"
 #[test]
-fn r13_the_second_dato_of_a_trap() {
+fn the_second_dato_of_a_trap_sets_ds() {
     let mut rig = Rig::exec();
     rig.fetch_word(0o002000, 0o001000, 0o104400);
     rig.write_quietly(0o001002, 0);
@@ -175,8 +100,9 @@ fn r13_the_second_dato_of_a_trap() {
     assert_eq!(rig.ktcs(), 0o000016);
 }
 
+/// "the "second" is the one that takes its count from 1 to 2", also if it passed in FCN 0.
 #[test]
-fn r13_a_third_never_sets_ds() {
+fn a_third_dato_never_sets_ds() {
     let mut rig = Rig::exec();
     rig.fetch_word(0o002000, 0o001000, 0o104400);
     rig.write_quietly(0o177576, 0);
@@ -187,8 +113,9 @@ fn r13_a_third_never_sets_ds() {
     assert_eq!(rig.ktcs(), 0o000006);
 }
 
+/// "Only DATO counts as DATO"; the other count is "of all non-fetch accesses".
 #[test]
-fn r13_datob_is_no_dato_but_an_access() {
+fn a_datob_is_no_dato_and_yet_an_access() {
     let mut rig = Rig::exec();
     rig.fetch_word(0o002000, 0o001000, 0o104777);
     rig.write_byte(0o001002, 0);
@@ -210,8 +137,9 @@ fn fcn_1(word: u16) -> Rig {
     rig
 }
 
+/// "SS and DS follow source 3.3.2.1"; "The FCN 1 clauses hold whether or not that access is paged."
 #[test]
-fn r14_fcn_1_sets() {
+fn what_sets_ss_and_ds_in_fcn_1_paged_or_not() {
     let mut rig = fcn_1(0o004737);
     rig.access([0, 4, 0], 0o020000, 0);
     assert_eq!(rig.ktcs(), 0o000001);
@@ -228,13 +156,15 @@ fn r14_fcn_1_sets() {
     let mut rig = fcn_1(0o010101);
     rig.read(0o001000);
     assert_eq!(rig.ktcs(), 0o000011);
-    // "Clearing by a fetch" is not in FCN 1.
+    // A fetch clears in normal paging alone.
     rig.fetch(0o020000);
     assert_eq!(rig.ktcs(), 0o000011);
 }
 
+/// "SS and DS follow source 3.3.2.1", where SOURCE and TRAP are clauses of normal paging alone;
+/// ""Normal paging" is FCN 2, and FCN 3 for a fetch."
 #[test]
-fn r14_fcn_1_and_0_do_not_set() {
+fn what_sets_nothing_in_fcn_1_and_fcn_0() {
     let mut rig = fcn_1(0o104400);
     for _ in 0..3 {
         rig.access([2, 4, 0], 0o020002, 0);
@@ -249,8 +179,9 @@ fn r14_fcn_1_and_0_do_not_set() {
     assert_eq!(rig.ktcs(), 0);
 }
 
+/// ""executing" is judged by the last fetched word: JSR 004000-004777o, RTS 000200-000207o, RTI 000002o, TRAP 104400-104777o"
 #[test]
-fn r14_ranges_of_the_words() {
+fn the_words_of_jsr_rts_rti_and_trap_at_both_ends() {
     for (word, ktcs) in [
         (0o003777, 0o000002),
         (0o004000, 0o000006),
@@ -274,8 +205,11 @@ fn r14_ranges_of_the_words() {
     }
 }
 
+/// "SS and DS follow source 3.3.2.1", by which a fetch in normal paging clears them; they are step 4, before "5. Paged
+/// odd word (4)."
+/// "a fetch sets neither bit (H)"
 #[test]
-fn r15_a_fetch_clears_both_even_if_it_fails() {
+fn a_fetch_in_normal_paging_clears_ss_and_ds_even_if_it_fails() {
     let mut rig = Rig::exec();
     rig.access([0, 1, 0], 0o001000, 0);
     rig.read(0o001000);
@@ -295,8 +229,9 @@ fn r15_a_fetch_clears_both_even_if_it_fails() {
     assert_eq!(rig.ktcs(), 0o000002);
 }
 
+/// "KTIC from the address on a paged FETCH", at step 4: also if the fetch fails later.
 #[test]
-fn r16_ktic() {
+fn ktic_is_loaded_by_every_paged_fetch() {
     let mut rig = Rig::exec();
     assert_eq!(rig.fetch(0o001003), bare(4));
     assert_eq!(rig.ktic(), 0o001003);
@@ -315,25 +250,52 @@ fn r16_ktic() {
     assert_eq!(rig.ktic(), 0);
 }
 
+/// "4. Counts since the last fetch; then, if bits 15-11 are clear: KTIC from the address on a paged FETCH; SS and DS."
+/// "6. Walk (9)." Both come before what the access reads.
 #[test]
-fn r17_a_read_sees_steps_4_and_6() {
+fn a_register_read_sees_what_steps_4_and_6_did() {
     assert_eq!(Rig::exec().read(0o177576), done(0o000012, 0o777576));
     assert_eq!(Rig::exec().read(0o177574), done(0o004400, 0o777574));
     assert_eq!(Rig::exec().read(0o177620), done(0o160777, 0o777620));
     assert_eq!(Rig::exec().fetch(0o177600), done(0o177600, 0o777600));
 }
 
+/// "Privacy: not a fetch, flag set, page private."
+/// "only in normal paging" is said of what moves the flag.
 #[test]
-fn shapes_in_their_lists() {
-    let mut rig = Rig::new();
-    for kind in [[4, 2, 0], [0, 5, 0], [0, 2, 2], [2, 2, 1], [3, 2, 0], [1, 0, 0], [0, 0, 1]] {
-        assert_eq!(rig.access(kind, 0, 0), bare(1));
-    }
-    for kind in [[0, 0, 0], [0, 1, 1], [1, 2, 0], [1, 3, 1], [2, 4, 0], [3, 4, 1]] {
-        assert_eq!(rig.access(kind, 0, 0), done(0, 0));
-    }
-    let mut unit = Unit::fresh();
-    for vector in [0, 1, 5, 0o40, 0o44] {
-        assert_eq!(unit.trap(vector), bare(1));
-    }
+fn privacy_is_judged_of_paged_accesses_in_fcn_1_too() {
+    let mut rig = Rig::exec_from_public();
+    rig.write_quietly(0o177576, 1);
+    assert_eq!(rig.read_quietly(0o002000), bare(7));
+    assert_eq!(rig.ktcs(), 0o010001);
+    // The same access unpaged is not judged.
+    let mut rig = Rig::exec_from_public();
+    rig.write_quietly(0o177576, 1);
+    assert_eq!(rig.access([0, 1, 0], 0o002000, 0).answer, 0);
+}
+
+/// "A fetch with answer 0 updates it (counts go to 0, the flag to the page's public bit); the flag only in normal
+/// paging, never from a KT register"
+/// "Word rule, paged fetches: user HALT 0, WAIT 1, RESET 5; or flag set, page private, word not 000400o."
+#[test]
+fn a_fetch_from_a_register_is_judged_and_remembered_and_moves_no_flag() {
+    let mut rig = Rig::exec_from_public();
+    rig.write_quietly(0o177604, 0o104401);
+    assert_eq!(rig.fetch(0o177604), done(0o104401, 0o777604));
+    let expected =
+        FetchMemory { last: 0o104401, before: 0o010101, datos: 0, accesses: 0, public: true };
+    assert_eq!(rig.unit.fetch_memory(), expected);
+    // The word rule: KTPC 0 fetched by a user is HALT.
+    let mut rig = Rig::user();
+    let reply = rig.fetch(0o002604);
+    assert_eq!((reply.answer, reply.data, reply.physical), (8, 0, Some(0o777604)));
+    // KTMR after the walk of user page 2, and KTCS in user mode.
+    let mut rig = Rig::user();
+    assert_eq!(rig.fetch(0o002574), done(0o004400, 0o777574));
+    assert_eq!(rig.fetch(0o002576), done(0o000022, 0o777576));
+    assert!(!rig.unit.fetch_memory().public);
+    // From public to a private register page only at an entry point.
+    let mut rig = Rig::exec_from_public();
+    rig.put(0o001776, 0o120777);
+    assert_eq!(rig.fetch(0o177574).answer, 8);
 }
