@@ -178,6 +178,9 @@ static void second_bus_error(void)
     new_machine();
     r[6] = 0701;
     check(trap(030) == 0, "so does the trap through 4 after one in the trap of EMT");
+    exec_paged();
+    r[6] = 0701;
+    check(trap(4) && r[7] == 0200 && (ktcs() & KT11B_KTCS_AV), "the first one in an illegal instruction's trap is served");
 }
 
 /* What `state` the store of MOV R0,(R1)+ has decides whether a monitor that goes by DS takes R1 back. */
@@ -297,6 +300,11 @@ static void device_registers(void)
     check(bus_with_devices(KT11B_DATOB, DESTINATION, KT11B_BYTE, 02777, 1, &word) == KT11B_DONE && ps == 0740, "a byte");
     check(bus_with_devices(KT11B_DATI, DESTINATION, KT11B_WORD, 02560, 0, &word) == KT11B_TIME_OUT, "nobody, paged");
     check(waits_for() == KT11B_WAIT_STATUS, "is a violation");
+
+    user_runs();
+    put_core_word(05410, 0120777);
+    check(bus_with_devices(KT11B_DATO, EXECUTE, KT11B_WORD, 04776, 0357, &word) == KT11B_DONE, "a user's store into it");
+    check(ps == 0017, "leaves the priority");
 }
 
 /* An access at exec 002776, whose page has this map word, after the fetch of an instruction. */
