@@ -6,8 +6,8 @@
  * bytes, low byte first, as many as the access is told. Nothing is kept of it between calls, nothing is allocated, and no
  * function has state of its own; two threads may call at once where neither the unit nor the memory is shared.
  *
- * Every call answers, for every number and for every content of the words and of the memory. Words that are no unit (never
- * made by kt11b_fresh, or written over) are answered KT11B_NO_UNIT, and then neither the words nor the memory change.
+ * Every call answers, for every number and for every content of the words and of the memory. Words that don't hold a unit
+ * (never made by kt11b_fresh, or written over) are answered KT11B_NO_UNIT, and then neither the words nor the memory change.
  * What is tested: the first and the last word, which say that a unit lies between them, and each field that has fewer values
  * than a word (KTCS's bits that read 0, the wait, the two counts, the public flag, the counter). What is not: a register, a
  * cell's tag or a scratchpad word that was changed into another 16-bit word makes another unit, and is taken for it.
@@ -66,7 +66,7 @@ typedef char kt11b_short_has_16_bits[sizeof(unsigned short) == 2 ? 1 : -1];
 #define KT11B_PV 7              /* privacy violation */
 #define KT11B_IV 8              /* instruction violation */
 #define KT11B_TIME_OUT 9        /* time-out: no map word, or no target, at that address */
-#define KT11B_NO_UNIT 70        /* the words are no unit */
+#define KT11B_NO_UNIT 70        /* the words don't hold a unit */
 
 /* Registers, by their place in the table of addresses from 777572 (octal) on. KTWN, place 0, is a window and is not read here. */
 #define KT11B_KTMR 1UL
@@ -139,8 +139,8 @@ unsigned long kt11b_trap(unsigned short *unit, unsigned long vector);
 unsigned long kt11b_init(unsigned short *unit);
 
 /*
- * For a front panel or a debugger. These change nothing; the reply's data is what is asked for. KT11B_NO_UNIT where the
- * words are no unit; KT11B_MISSHAPEN where the number is none of the registers' (KT11B_KTMR to KT11B_KTEM) or the index not
+ * For a front panel or a debugger. These change nothing; the reply's data is what is asked for. KT11B_NO_UNIT if the words
+ * don't hold a unit; KT11B_MISSHAPEN where the number is none of the registers' (KT11B_KTMR to KT11B_KTEM) or the index not
  * below KT11B_CELLS.
  */
 unsigned long kt11b_register(const unsigned short *unit, unsigned long number);

@@ -204,10 +204,10 @@ static void try_readings(unsigned long number)
         check((checked_answer(kt11b_cell_tag(unit, number)) == KT11B_DONE) == (number < KT11B_CELLS), "tags by index");
         check((checked_answer(kt11b_cell_word(unit, number)) == KT11B_DONE) == (number < KT11B_CELLS), "words by index");
     } else {
-        check(answer == KT11B_NO_UNIT, "only what is no unit is not read");
-        check(checked_answer(kt11b_register(unit, number)) == KT11B_NO_UNIT, "no register of what is no unit");
-        check(checked_answer(kt11b_cell_tag(unit, number)) == KT11B_NO_UNIT, "no tag of what is no unit");
-        check(checked_answer(kt11b_cell_word(unit, number)) == KT11B_NO_UNIT, "no word of what is no unit");
+        check(answer == KT11B_NO_UNIT, "only words that don't hold a unit are refused");
+        check(checked_answer(kt11b_register(unit, number)) == KT11B_NO_UNIT, "no register of words that don't hold a unit");
+        check(checked_answer(kt11b_cell_tag(unit, number)) == KT11B_NO_UNIT, "no tag of words that don't hold a unit");
+        check(checked_answer(kt11b_cell_word(unit, number)) == KT11B_NO_UNIT, "no cell word of words that don't hold a unit");
     }
     check_words_unchanged("reading changes nothing");
 }
@@ -243,8 +243,8 @@ static void random_units(unsigned long rounds)
         random_access(&made);
         if (try_access(&made) == KT11B_NO_UNIT) {
             try_other_calls(below(32));
-            check(checked_answer(kt11b_init(unit)) == KT11B_NO_UNIT, "INIT makes no unit");
-            check_words_unchanged("INIT leaves what is no unit");
+            check(checked_answer(kt11b_init(unit)) == KT11B_NO_UNIT, "INIT does not make words hold a unit");
+            check_words_unchanged("INIT leaves words that don't hold a unit");
         }
         try_readings(below(20));
     }

@@ -1,6 +1,7 @@
 //! The units that are timed, each behind the same few functions.
 
 use crate::stream::{Access, KTUM};
+use kt11b::NumberedAccess;
 use std::hint::black_box;
 
 /// What is compared of a reply.
@@ -30,8 +31,9 @@ impl Paging for Library {
     #[inline]
     fn access(&mut self, memory: &mut [u8], access: Access) -> Seen {
         let Access { operation, state, width, address, data } = access;
-        let kind = [u64::from(operation), u64::from(state), u64::from(width)];
-        let reply = self.0.access_numbered(memory, kind, address, data);
+        let [operation, state, width] = [operation, state, width].map(u64::from);
+        let access = NumberedAccess { operation, state, width, address, data };
+        let reply = self.0.access_numbered(memory, access);
         Seen { answer: reply.answer_number(), data: reply.data() }
     }
 }

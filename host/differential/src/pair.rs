@@ -1,6 +1,6 @@
 //! The library and the model side by side.
 
-use kt11b::Register;
+use kt11b::{NumberedAccess, Register};
 use kt11b_model::bench::Call;
 
 /// More than the longest memory, so that lengths that are too large can be lent too.
@@ -89,7 +89,8 @@ impl Pair {
         let memory = &mut self.library_memory[..length];
         match call {
             Call::Access { operation, state, width, address, data } => {
-                self.library.access_numbered(memory, [operation, state, width], address, data)
+                let access = NumberedAccess { operation, state, width, address, data };
+                self.library.access_numbered(memory, access)
             }
             Call::Interrupt => self.library.interrupt(),
             Call::Trap { vector } => self.library.trap_numbered(vector),

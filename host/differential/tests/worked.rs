@@ -1,6 +1,6 @@
 //! The inputs of tests/numbers, whose outputs were worked out by hand, through the library.
 
-use kt11b::{Register, Reply, Unit};
+use kt11b::{NumberedAccess, Register, Reply, Unit};
 use kt11b_model::bench::{parse, Call, Line, HEADER, MEMORY_BYTES};
 use std::fmt::Write;
 use std::path::Path;
@@ -15,8 +15,8 @@ impl Machine {
     fn call(&mut self, call: Call) -> Reply {
         match call {
             Call::Access { operation, state, width, address, data } => {
-                let kind = [operation, state, width];
-                self.unit.access_numbered(&mut self.memory, kind, address, data)
+                let access = NumberedAccess { operation, state, width, address, data };
+                self.unit.access_numbered(&mut self.memory, access)
             }
             Call::Interrupt => self.unit.interrupt(),
             Call::Trap { vector } => self.unit.trap_numbered(vector),

@@ -5,7 +5,7 @@
 //! bit, and all other devices are the host's. Every number in the rules is octal, and so are the addresses below.
 //!
 //! This crate wraps the static library `libkt11b.a`, whose functions are proved to meet the unit's rules for every input. It
-//! has no dependencies, and no `unsafe` in its interface.
+//! has no dependencies, not even the standard library, and no `unsafe` in its interface.
 //!
 //! # A first access
 //!
@@ -36,13 +36,23 @@
 //! assert_eq!(odd.physical(), None);
 //! ```
 
+#![no_std]
 #![deny(missing_docs)]
 
+pub mod ktcs;
 mod library;
+mod numbered;
 mod numbers;
 mod reply;
 mod unit;
 
+pub use numbered::NumberedAccess;
 pub use numbers::{Answer, Operation, Register, State, Vector, Wait, Width};
 pub use reply::Reply;
 pub use unit::{map_page, Unit, CELLS, LONGEST_MEMORY, UNIT_WORDS};
+
+/// The version of the library's interface, the same number as the C header's `KT11B_VERSION`.
+///
+/// It rises with each change of a function of the library, of an answer or of the unit's words. Words that were saved are for
+/// the same version alone.
+pub const VERSION: u32 = 1;

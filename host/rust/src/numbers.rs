@@ -102,6 +102,22 @@ impl Register {
         Register::Ktum,
         Register::Ktem,
     ];
+
+    /// The variant's name as a text that needs no allocation.
+    pub(crate) fn name(self) -> &'static str {
+        match self {
+            Register::Ktmr => "Ktmr",
+            Register::Ktcs => "Ktcs",
+            Register::Ktic => "Ktic",
+            Register::Ktsp => "Ktsp",
+            Register::Ktpc => "Ktpc",
+            Register::Ktps => "Ktps",
+            Register::Ktad => "Ktad",
+            Register::Ktdt => "Ktdt",
+            Register::Ktum => "Ktum",
+            Register::Ktem => "Ktem",
+        }
+    }
 }
 
 /// What the unit waits for.
@@ -157,7 +173,7 @@ pub enum Answer {
     InstructionViolation,
     /// 9: nothing answers at that address, or at its map word's.
     TimeOut,
-    /// 70: the words are no unit.
+    /// 70: the words don't hold a unit.
     NoUnit,
     /// A number that no rule lists; no call of the library gives one.
     Other(u8),

@@ -1,7 +1,7 @@
 //! What a call gives back.
 
 use crate::numbers::Answer;
-use std::fmt;
+use core::fmt;
 
 /// The reply of a call: the answer, the data, and the physical address if there is one.
 ///

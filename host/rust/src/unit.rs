@@ -1,9 +1,10 @@
 //! The unit, and the map page that tools get.
 
 use crate::library::*;
+use crate::numbered::NumberedAccess;
 use crate::numbers::{Operation, Register, State, Vector, Wait, Width};
 use crate::reply::Reply;
-use std::fmt;
+use core::fmt;
 
 /// How many words a unit takes.
 pub const UNIT_WORDS: usize = 34;
@@ -33,7 +34,7 @@ impl Unit {
 
     /// A unit of words that [`words`](Unit::words) gave, in this run or an earlier one.
     ///
-    /// Any words are taken. Those that are no unit are refused by each call with
+    /// Any words are taken. Words that don't hold a unit are refused by each call with
     /// [`Answer::NoUnit`](crate::Answer::NoUnit), and then nothing changes.
     pub fn from_words(words: [u16; UNIT_WORDS]) -> Unit {
         Unit { words }
@@ -44,7 +45,7 @@ impl Unit {
         &self.words
     }
 
-    /// Whether the words are a unit at all. Those of [`fresh`](Unit::fresh) are, and stay so.
+    /// Whether the words hold a unit. Those of [`fresh`](Unit::fresh) do, and every call keeps it so.
     pub fn is_unit(&self) -> bool {
         self.counter().is_some()
     }
@@ -63,19 +64,14 @@ impl Unit {
         address: u16,
         data: u16,
     ) -> Reply {
-        let kind = [operation as u64, state as u64, width as u64];
-        self.access_numbered(memory, kind, address, data)
+        let [operation, state, width] = [operation as u64, state as u64, width as u64];
+        self.access_numbered(memory, NumberedAccess { operation, state, width, address, data })
     }
 
     /// The same by the numbers of operation, state and width.
     #[inline]
-    pub fn access_numbered(
-        &mut self,
-        memory: &mut [u8],
-        [operation, state, width]: [u64; 3],
-        address: u16,
-        data: u16,
-    ) -> Reply {
+    pub fn access_numbered(&mut self, memory: &mut [u8], access: NumberedAccess) -> Reply {
+        let NumberedAccess { operation, state, width, address, data } = access;
         let length = memory.len() as u64;
         let unit = self.words.as_mut_ptr();
         // Sound: the words and the memory are two exclusive borrows, so they do not overlap, and the length is the memory's.
@@ -109,7 +105,7 @@ impl Unit {
         Reply::from_number(unsafe { kt11b_init(self.words.as_mut_ptr()) })
     }
 
-    /// A register's word, or none if the words are no unit.
+    /// A register's word, or none if the words don't hold a unit.
     pub fn register(&self, register: Register) -> Option<u16> {
         held(self.register_numbered(register as u64))
     }
@@ -120,7 +116,8 @@ impl Unit {
         Reply::from_number(unsafe { kt11b_register(self.words.as_ptr(), number) })
     }
 
-    /// A cell's tag: 128 for user plus the page, 0 for an empty cell. None at or beyond [`CELLS`], or if the words are no unit.
+    /// A cell's tag: 128 for user plus the page, 0 for an empty cell. None at or beyond [`CELLS`], or if the words don't hold
+    /// a unit.
     pub fn cell_tag(&self, index: usize) -> Option<u16> {
         held(self.cell_tag_numbered(index as u64))
     }
@@ -131,7 +128,7 @@ impl Unit {
         Reply::from_number(unsafe { kt11b_cell_tag(self.words.as_ptr(), index) })
     }
 
-    /// A cell's scratchpad word. None at or beyond [`CELLS`], or if the words are no unit.
+    /// A cell's scratchpad word. None at or beyond [`CELLS`], or if the words don't hold a unit.
     pub fn cell_word(&self, index: usize) -> Option<u16> {
         held(self.cell_word_numbered(index as u64))
     }
@@ -142,13 +139,13 @@ impl Unit {
         Reply::from_number(unsafe { kt11b_cell_word(self.words.as_ptr(), index) })
     }
 
-    /// The replacement counter, 10 to 17 octal, or none if the words are no unit.
+    /// The replacement counter, 10 to 17 octal, or none if the words don't hold a unit.
     pub fn counter(&self) -> Option<u16> {
         // Sound: the library only reads here.
         held(Reply::from_number(unsafe { kt11b_counter(self.words.as_ptr()) }))
     }
 
-    /// What the unit waits for, or none if the words are no unit.
+    /// What the unit waits for, or none if the words don't hold a unit.
     pub fn wait(&self) -> Option<Wait> {
         // Sound: the library only reads here.
         let reply = Reply::from_number(unsafe { kt11b_wait(self.words.as_ptr()) });
@@ -172,9 +169,9 @@ impl fmt::Debug for Unit {
         let mut shown = to.debug_struct("Unit");
         for register in Register::ALL {
             let Some(word) = self.register(register) else {
-                return shown.field("no unit", &self.words).finish();
+                return shown.field("words that don't hold a unit", &self.words).finish();
             };
-            shown.field(&format!("{register:?}"), &format_args!("{word:06o}"));
+            shown.field(register.name(), &format_args!("{word:06o}"));
         }
         shown.field("wait", &self.wait()).finish_non_exhaustive()
     }

@@ -1,7 +1,8 @@
 //! The constants here and those of host/include/kt11b.h are the same numbers.
 
 use kt11b::{
-    Answer, Operation, Register, State, Unit, Wait, Width, CELLS, LONGEST_MEMORY, UNIT_WORDS,
+    Answer, NumberedAccess, Operation, Register, State, Unit, Wait, Width, CELLS, LONGEST_MEMORY,
+    UNIT_WORDS,
 };
 use std::collections::BTreeMap;
 
@@ -62,11 +63,13 @@ fn answers() {
     let defined = defined();
     let mut unit = Unit::fresh();
     let mut none = Unit::from_words([0; UNIT_WORDS]);
+    let read = NumberedAccess { operation: 0, state: 2, width: 0, address: 2, data: 0 };
+    let odd = NumberedAccess { address: 1, ..read };
     let cases = [
         ("DONE", unit.init(), Answer::Done),
         ("MISSHAPEN", unit.trap_numbered(5), Answer::Misshapen),
-        ("UNPAGED_ODD", unit.access_numbered(&mut [], [0, 2, 0], 1, 0), Answer::UnpagedOdd),
-        ("TIME_OUT", unit.access_numbered(&mut [], [0, 2, 0], 2, 0), Answer::TimeOut),
+        ("UNPAGED_ODD", unit.access_numbered(&mut [], odd), Answer::UnpagedOdd),
+        ("TIME_OUT", unit.access_numbered(&mut [], read), Answer::TimeOut),
         ("NO_UNIT", none.init(), Answer::NoUnit),
     ];
     for (name, reply, answer) in cases {

@@ -82,5 +82,5 @@ fn shown_for_debugging() {
     let shown = format!("{:?}", Rig::user().unit);
     assert!(shown.contains("Ktum: 020005"), "{shown}");
     let shown = format!("{:?}", Unit::from_words([0; kt11b::UNIT_WORDS]));
-    assert!(shown.contains("no unit"), "{shown}");
+    assert!(shown.contains("words that don't hold a unit"), "{shown}");
 }

@@ -3,9 +3,13 @@
 mod common;
 
 use common::{parts, Rig};
-use kt11b::{Answer, Reply, Unit, Vector, LONGEST_MEMORY};
+use kt11b::{Answer, NumberedAccess, Reply, Unit, Vector, LONGEST_MEMORY};
 
 const REFUSED: (Answer, u16, Option<u32>) = (Answer::Misshapen, 0, None);
+
+/// A DATO in DESTINATION, of which the tests change one number or two.
+const STORE: NumberedAccess =
+    NumberedAccess { operation: 2, state: 2, width: 0, address: 0o001004, data: 7 };
 
 /// "a number outside its list": operations from 4 on, whatever the rest.
 #[test]
@@ -13,8 +17,9 @@ fn operations_outside_their_list() {
     let mut rig = Rig::paged();
     for operation in (4..300).chain([1 << 16, 1 << 32, (1 << 32) + 2, u64::MAX]) {
         for width in [0, 1] {
-            let reply = rig.unchanged(|rig| rig.by_number([operation, 2, width], 0o001004, 7));
-            assert_eq!(parts(reply), REFUSED, "operation {operation}");
+            let access = NumberedAccess { operation, width, ..STORE };
+            let reply = rig.unchanged(|rig| rig.by_number(access));
+            assert_eq!(parts(reply), REFUSED, "{access:?}");
         }
     }
 }
@@ -23,9 +28,12 @@ fn operations_outside_their_list() {
 fn states_and_widths_outside_their_lists() {
     let mut rig = Rig::paged();
     for number in (5..300).chain([1 << 32, u64::MAX]) {
-        let state = rig.unchanged(|rig| rig.by_number([2, number, 0], 0o001004, 7));
-        let width = rig.unchanged(|rig| rig.by_number([0, 2, number], 0o001004, 7));
-        assert_eq!((parts(state), parts(width)), (REFUSED, REFUSED), "number {number}");
+        let state = NumberedAccess { state: number, ..STORE };
+        let width = NumberedAccess { operation: 0, width: number, ..STORE };
+        for access in [state, width] {
+            let reply = rig.unchanged(|rig| rig.by_number(access));
+            assert_eq!(parts(reply), REFUSED, "{access:?}");
+        }
     }
 }
 
@@ -33,10 +41,18 @@ fn states_and_widths_outside_their_lists() {
 #[test]
 fn bad_shapes() {
     let mut rig = Rig::paged();
-    let shapes = [[2, 2, 1], [3, 2, 0], [0, 0, 1], [1, 0, 0], [2, 0, 0], [3, 0, 1]];
-    for kind in shapes {
-        let reply = rig.unchanged(|rig| rig.by_number(kind, 0o001004, 7));
-        assert_eq!(parts(reply), REFUSED, "{kind:?}");
+    let fetch = NumberedAccess { operation: 0, state: 0, ..STORE };
+    let shapes = [
+        NumberedAccess { width: 1, ..STORE },
+        NumberedAccess { operation: 3, ..STORE },
+        NumberedAccess { width: 1, ..fetch },
+        NumberedAccess { operation: 1, ..fetch },
+        NumberedAccess { operation: 2, ..fetch },
+        NumberedAccess { operation: 3, width: 1, ..fetch },
+    ];
+    for access in shapes {
+        let reply = rig.unchanged(|rig| rig.by_number(access));
+        assert_eq!(parts(reply), REFUSED, "{access:?}");
     }
 }
 
@@ -64,7 +80,7 @@ fn no_memory_at_all() {
 
 /// A DATO of 41 at 2.
 fn store(unit: &mut Unit, memory: &mut [u8]) -> Reply {
-    unit.access_numbered(memory, [2, 3, 0], 2, 0o41)
+    unit.access_numbered(memory, NumberedAccess { state: 3, address: 2, data: 0o41, ..STORE })
 }
 
 /// "Vectors: 4, 10, 14, 20, 24, 30, 34 (o)."
@@ -98,7 +114,8 @@ fn while_waiting() {
     assert_eq!(parts(rig.unchanged(|rig| rig.unit.interrupt())), not_due);
     assert_eq!(parts(rig.unchanged(|rig| rig.unit.trap(Vector::Emt))), not_due);
     assert_eq!(parts(rig.unchanged(|rig| rig.unit.trap_numbered(5))), REFUSED);
-    assert_eq!(parts(rig.unchanged(|rig| rig.by_number([4, 2, 0], 0, 0))), REFUSED);
+    let unlisted = NumberedAccess { operation: 4, ..STORE };
+    assert_eq!(parts(rig.unchanged(|rig| rig.by_number(unlisted))), REFUSED);
     assert_eq!(parts(rig.unit.init()), (Answer::Done, 0, None));
     assert_eq!(parts(rig.read(0o001004)), (Answer::Done, 0, Some(0o001004)));
 }

@@ -1,19 +1,20 @@
-//! Words that are no unit: always answered, never changed.
+//! Words that don't hold a unit: always answered, never changed.
 
 mod common;
 
 use common::Rig;
-use kt11b::{Answer, Register, Unit, Vector, UNIT_WORDS};
+use kt11b::{Answer, NumberedAccess, Register, Unit, Vector, UNIT_WORDS};
 
-/// Every call and every reading of words that are no unit.
+/// Every call and every reading of words that don't hold a unit.
 fn refuses_everything(words: [u16; UNIT_WORDS]) {
     let mut rig = Rig::new();
     rig.unit = Unit::from_words(words);
     assert!(!rig.unit.is_unit());
+    let unlisted = NumberedAccess { operation: 4, state: 9, width: 9, address: 0, data: 0 };
     let answers = rig.unchanged(|rig| {
         [
             rig.write(0o001004, 0o123456),
-            rig.by_number([4, 9, 9], 0, 0),
+            rig.by_number(unlisted),
             rig.unit.interrupt(),
             rig.unit.trap(Vector::Emt),
             rig.unit.trap_numbered(5),
@@ -35,7 +36,7 @@ fn refuses_everything(words: [u16; UNIT_WORDS]) {
 }
 
 #[test]
-fn words_that_were_never_a_unit() {
+fn words_that_never_held_a_unit() {
     refuses_everything([0; UNIT_WORDS]);
     refuses_everything([0o177777; UNIT_WORDS]);
     refuses_everything([0o123456; UNIT_WORDS]);
@@ -71,7 +72,7 @@ fn one_word_scribbled_over() {
 
 /// INIT does not make a unit, `fresh` does.
 #[test]
-fn a_fresh_one_is_a_unit() {
+fn a_fresh_one_holds_a_unit() {
     assert!(Unit::fresh().is_unit());
     let saved = *Rig::user().unit.words();
     assert!(Unit::from_words(saved) == Rig::user().unit);

@@ -1,7 +1,7 @@
 //! A unit with its memory, for the tests.
 #![allow(dead_code)]
 
-use kt11b::{Answer, Operation, Reply, State, Unit, Width};
+use kt11b::{Answer, NumberedAccess, Operation, Reply, State, Unit, Width};
 
 pub struct Rig {
     pub unit: Unit,
@@ -63,8 +63,8 @@ impl Rig {
         self.unit.access(&mut self.memory, kind.0, kind.1, kind.2, address, data)
     }
 
-    pub fn by_number(&mut self, kind: [u64; 3], address: u16, data: u16) -> Reply {
-        self.unit.access_numbered(&mut self.memory, kind, address, data)
+    pub fn by_number(&mut self, access: NumberedAccess) -> Reply {
+        self.unit.access_numbered(&mut self.memory, access)
     }
 
     /// Does something that must change neither the unit nor the memory.
