@@ -19,21 +19,39 @@ fn a_fresh_unit() {
     assert_eq!(unit.wait(), Some(Wait::Nothing));
 }
 
-/// The reading function and an unpaged DATI of the register's address show the same word.
+/// 01's table of registers, with the unpaged address of each.
+const ADDRESSES: [(Register, u16); 10] = [
+    (Register::Ktmr, 0o177574),
+    (Register::Ktcs, 0o177576),
+    (Register::Ktic, 0o177600),
+    (Register::Ktsp, 0o177602),
+    (Register::Ktpc, 0o177604),
+    (Register::Ktps, 0o177606),
+    (Register::Ktad, 0o177610),
+    (Register::Ktdt, 0o177612),
+    (Register::Ktum, 0o177614),
+    (Register::Ktem, 0o177616),
+];
+
+/// The reading function and an unpaged DATI of the register's address show the same word, another one for each register.
 #[test]
 fn registers_as_the_bus_shows_them() {
     let mut rig = Rig::new();
-    for register in Register::ALL {
-        let address = 0o177572 + 2 * register as u16;
+    for (register, address) in ADDRESSES {
         if register != Register::Ktcs {
-            rig.write(address, 0o010203 + register as u16);
+            rig.write(address, address ^ 0o123000);
         }
     }
-    for register in Register::ALL {
-        let read = rig.read(0o177572 + 2 * register as u16);
-        assert_eq!(rig.unit.register(register), Some(read.data()), "{register:?}");
+    for (register, address) in ADDRESSES {
+        let expected = match register {
+            Register::Ktmr => 0o004000,
+            Register::Ktcs => 0,
+            _ => address ^ 0o123000,
+        };
+        assert_eq!(rig.read(address).data(), expected, "{register:?}");
+        assert_eq!(rig.unit.register(register), Some(expected), "{register:?}");
     }
-    assert_eq!(rig.unit.register(Register::Ktem), Some(0o010215));
+    assert_eq!(ADDRESSES.map(|(register, _)| register), Register::ALL);
 }
 
 /// "Tag: 128 for user plus p"; "fills the cell the counter names, then the counter steps 10o to 17o and round".

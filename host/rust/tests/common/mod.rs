@@ -1,6 +1,8 @@
 //! A unit with its memory, for the tests.
 #![allow(dead_code)]
 
+pub mod answers;
+
 use kt11b::{Answer, NumberedAccess, Operation, Reply, State, Unit, Width};
 
 pub struct Rig {
@@ -48,6 +50,12 @@ impl Rig {
     /// A word DATI in DESTINATION.
     pub fn read(&mut self, address: u16) -> Reply {
         let kind = (Operation::Dati, State::Destination, Width::Word);
+        self.unit.access(&mut self.memory, kind.0, kind.1, kind.2, address, 0)
+    }
+
+    /// A word DATI in FETCH.
+    pub fn fetch(&mut self, address: u16) -> Reply {
+        let kind = (Operation::Dati, State::Fetch, Width::Word);
         self.unit.access(&mut self.memory, kind.0, kind.1, kind.2, address, 0)
     }
 

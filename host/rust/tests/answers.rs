@@ -1,0 +1,43 @@
+//! Every answer by name, from a call that gives it, with its number, its data, its physical address and its flag in KTCS.
+
+mod common;
+
+use common::answers::CASES;
+use common::parts;
+use kt11b::{ktcs, Register, Wait};
+
+#[test]
+fn each_by_a_call_that_gives_it() {
+    for case in CASES {
+        let (_, reply) = (case.call)();
+        assert_eq!(parts(reply), case.parts, "{}", case.name);
+        assert_eq!(reply.answer_number(), case.number, "{}", case.name);
+        assert_eq!(reply.is_done(), case.name == "DONE");
+    }
+}
+
+/// "its flag is set (9 has none)", and no other one.
+#[test]
+fn each_with_its_flag() {
+    let flags = ktcs::RV | ktcs::PV | ktcs::WV | ktcs::AV | ktcs::IV;
+    for case in CASES {
+        let (rig, _) = (case.call)();
+        // Words that don't hold a unit have no KTCS.
+        let set = rig.unit.register(Register::Ktcs).map_or(0, |word| word & flags);
+        assert_eq!(set, case.flag, "{}", case.name);
+    }
+}
+
+/// After answers 4 to 8 "the unit waits for two SERVICE DATOs"; none of the others here leaves it waiting.
+#[test]
+fn each_with_its_wait() {
+    for case in CASES {
+        let (rig, _) = (case.call)();
+        let expected = match case.number {
+            4..=8 => Some(Wait::Status),
+            70 => None,
+            _ => Some(Wait::Nothing),
+        };
+        assert_eq!(rig.unit.wait(), expected, "{}", case.name);
+    }
+}
