@@ -3,6 +3,7 @@
 mod pair;
 mod random;
 mod steering;
+mod words;
 
 pub use pair::Pair;
 pub use random::Random;

@@ -1,5 +1,6 @@
 //! The library and the model side by side.
 
+use crate::words::words_of;
 use kt11b::{NumberedAccess, Register};
 use kt11b_model::bench::Call;
 
@@ -38,7 +39,8 @@ impl Pair {
             model_memory: memory,
             answers: [0; 10],
         };
-        pair.compare_state();
+        pair.compare_words(Call::Init);
+        pair.compare_readings();
         pair
     }
 
@@ -66,7 +68,8 @@ impl Pair {
         let parts = (given.answer_number(), given.data(), given.physical());
         assert_eq!(parts, (wanted.answer, wanted.data, wanted.physical), "{call:?}, L={length:o}");
         self.answers[usize::from(wanted.answer)] += 1;
-        self.compare_state();
+        self.compare_words(call);
+        self.compare_readings();
         let place = wanted.physical.unwrap_or(0) as usize;
         let first = place.saturating_sub(8).min(BUFFER);
         let near = first..(place + 8).clamp(first, BUFFER);
@@ -98,8 +101,16 @@ impl Pair {
         }
     }
 
-    /// Every register, cell, the counter and the wait.
-    fn compare_state(&self) {
+    /// The whole unit, word by word: the fetch memory too, which no reading shows.
+    fn compare_words(&self, after: Call) {
+        let pairs = self.library.words().iter().zip(words_of(&self.model));
+        for (place, (&given, wanted)) in pairs.enumerate() {
+            assert!(given == wanted, "word {place} is {given:o}, not {wanted:o}, after {after:?}");
+        }
+    }
+
+    /// What a front panel reads: every register, cell, the counter and the wait.
+    fn compare_readings(&self) {
         let read = |register| self.library.register(register);
         let counter = u16::from(self.model.counter());
         assert_eq!(read(Register::Ktcs), Some(self.model.ktcs()));
