@@ -3,6 +3,7 @@
 //! `kt11b-bench ACCESSES` prints times and ratios. `kt11b-bench count UNIT ACCESSES` makes that many accesses of one unit
 //! (library, model, walk or nothing) and prints nothing, for callgrind to count.
 
+mod digest;
 mod stream;
 mod units;
 
@@ -22,6 +23,7 @@ struct Timed<P> {
     /// Nanoseconds per access in the quickest round, and in all rounds together.
     best: f64,
     sum: f64,
+    /// The replies of all rounds.
     total: Total,
 }
 
@@ -35,7 +37,7 @@ impl<P: Paging> Timed<P> {
     /// One round.
     fn round(&mut self, stream: &[Access], accesses: usize) {
         let begun = Instant::now();
-        self.total = run(&mut self.unit, &mut self.memory, stream, accesses);
+        self.total = run(&mut self.unit, &mut self.memory, stream, accesses, self.total);
         let spent = begun.elapsed().as_secs_f64() * 1e9 / accesses as f64;
         self.best = self.best.min(spent);
         self.sum += spent;
@@ -106,7 +108,7 @@ fn time_all(accesses: usize) -> ExitCode {
         && walk.memory == model.memory;
     if same && model.total.refused == 0 {
         println!(
-            "All three gave the same answers and left the same memory; no access was refused."
+            "All three gave the same replies in the same order and left the same memory; no access was refused."
         );
         return ExitCode::SUCCESS;
     }

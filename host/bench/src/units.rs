@@ -1,14 +1,16 @@
 //! The units that are timed, each behind the same few functions.
 
+use crate::digest::Digest;
 use crate::stream::{Access, KTUM};
 use kt11b::NumberedAccess;
 use std::hint::black_box;
 
-/// What is compared of a reply.
+/// What is compared of a reply: all of it.
 #[derive(Clone, Copy, PartialEq, Eq, Debug)]
 pub struct Seen {
     pub answer: u8,
     pub data: u16,
+    pub physical: Option<u32>,
 }
 
 pub trait Paging {
@@ -34,7 +36,7 @@ impl Paging for Library {
         let [operation, state, width] = [operation, state, width].map(u64::from);
         let access = NumberedAccess { operation, state, width, address, data };
         let reply = self.0.access_numbered(memory, access);
-        Seen { answer: reply.answer_number(), data: reply.data() }
+        Seen { answer: reply.answer_number(), data: reply.data(), physical: reply.physical() }
     }
 }
 
@@ -47,37 +49,44 @@ impl Paging for Model {
         let Access { operation, state, width, address, data } = access;
         let [operation, state, width] = [operation, state, width].map(u64::from);
         let reply = self.0.access(memory, operation, state, width, address, data);
-        Seen { answer: reply.answer, data: reply.data }
+        Seen { answer: reply.answer, data: reply.data, physical: reply.physical }
     }
 }
 
-/// Nothing: what the loop around an access costs.
+/// Nothing: what the loop around an access costs. Its reply is made of the access's own parts, so that the digest has to be
+/// worked out here too.
 pub struct Nothing;
 
 impl Paging for Nothing {
     #[inline]
     fn access(&mut self, _memory: &mut [u8], access: Access) -> Seen {
-        Seen { answer: 0, data: black_box(access).address }
+        let Access { state, width, address, data, .. } = black_box(access);
+        Seen { answer: state, data, physical: (width == 0).then_some(u32::from(address)) }
     }
 }
 
-/// A run's answers other than 0, and the sum of the data.
+/// How many answers were other than 0, and the digest of all replies.
 #[derive(Clone, Copy, PartialEq, Eq, Debug, Default)]
 pub struct Total {
     pub refused: u64,
-    pub data: u64,
+    pub replies: Digest,
 }
 
-/// Gives the unit so many accesses of the stream, from its beginning.
-pub fn run(unit: &mut impl Paging, memory: &mut [u8], stream: &[Access], accesses: usize) -> Total {
-    let mut total = Total::default();
+/// Gives the unit so many accesses of the stream, from its beginning; the total before them becomes the total with them.
+pub fn run(
+    unit: &mut impl Paging,
+    memory: &mut [u8],
+    stream: &[Access],
+    accesses: usize,
+    mut total: Total,
+) -> Total {
     let mut left = accesses;
     while left > 0 {
         let now = left.min(stream.len());
         for &access in &stream[..now] {
             let seen = unit.access(memory, access);
             total.refused += u64::from(seen.answer != 0);
-            total.data = total.data.wrapping_add(u64::from(seen.data));
+            total.replies.take(seen);
         }
         left -= now;
     }
