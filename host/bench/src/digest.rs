@@ -2,7 +2,7 @@
 
 use crate::units::Seen;
 
-/// A digest of 64 bits; that two streams of replies share one by chance is not to be expected.
+/// A digest of 64 bits: streams of replies that differ share one with a chance of about one in 2^64.
 #[derive(Clone, Copy, PartialEq, Eq, Debug, Default)]
 pub struct Digest(u64);
 
