@@ -34,7 +34,8 @@ unitWords = lastPlace + 1
 
 -- Single words ---------------------------------------------------------------------------------------------------------------------
 
--- The first end, which reads "KT" as bytes: words never made by the library are hardly ever taken for a unit.
+-- The first end, which reads "KT" as bytes: words never made by the library are hardly ever taken for a unit. It changes with each layout, so that
+-- words of another one are refused.
 abbrev pub firstWord : ℕ
 firstWord = 0x544b
 
