@@ -55,10 +55,10 @@ typedef char kt11b_short_has_16_bits[sizeof(unsigned short) == 2 ? 1 : -1];
 #define KT11B_WORD 0UL
 #define KT11B_BYTE 1UL
 
-/* Answers. 4 to 8 are the violations, which put the unit into exec and leave it waiting for two SERVICE DATOs. */
+/* Answers. 4 to 8 are the violations; they, and a paged 9, put the unit into exec and leave it waiting for two SERVICE DATOs. */
 #define KT11B_DONE 0            /* done */
 #define KT11B_MISSHAPEN 1       /* a number that is none of those listed, a memory of a bad length, or an access of a bad shape */
-#define KT11B_NOT_DUE 2         /* the unit waits for another access */
+#define KT11B_NOT_DUE 2         /* the unit waits for another access, or FCN is 3 */
 #define KT11B_UNPAGED_ODD 3     /* a word at an odd address, unpaged */
 #define KT11B_AV 4              /* address violation: a word at an odd address, paged */
 #define KT11B_RV 5              /* residency violation */
