@@ -4,9 +4,10 @@
  * The numbers are not written out here: what is tested is that the header's names mean what the library does. The situations
  * and what they come to are worked from the unit's rules. All numbers are octal where they begin with 0.
  */
-#include <stdio.h>
-#include <stdlib.h>
 #include "kt11b.h"
+
+#define PROGRAM "answers"
+#include "check.h"
 
 /* How much of the memory is lent, where its length is not what is tried. */
 #define MEMORY_BYTES 0200000UL
@@ -16,16 +17,6 @@
 
 static unsigned short unit[KT11B_UNIT_WORDS];
 static unsigned char memory[KT11B_MEMORY_MOST + 2];
-static unsigned long checks;
-
-static void check(int holds, const char *what)
-{
-    checks++;
-    if (!holds) {
-        printf("answers: wrong: %s\n", what);
-        exit(1);
-    }
-}
 
 /* A word of memory, low byte first, written behind the unit's back. */
 static void put_word(unsigned long place, unsigned word)
@@ -251,6 +242,5 @@ int main(void)
     registers();
     fields();
     sizes();
-    printf("answers: %lu checks, all as they should be\n", checks);
-    return 0;
+    return all_held();
 }

@@ -2,23 +2,14 @@
  * What docs/HOSTS.md says an emulator has to do, done: its C blocks, taken out into hosts.c, are run here, and what they leave
  * is compared with the rules. Each test begins with a machine of its own.
  */
-#include <stdlib.h>
 #include "hosts.c"
+
+#define PROGRAM "guide"
+#include "check.h"
 
 #define DESTINATION KT11B_DESTINATION
 #define EXECUTE KT11B_EXECUTE
 #define SERVICE KT11B_SERVICE
-
-static int checks;
-
-static void check(int holds, const char *what)
-{
-    checks++;
-    if (!holds) {
-        printf("guide: wrong: %s\n", what);
-        exit(1);
-    }
-}
 
 static unsigned reg(unsigned long number)
 {
@@ -372,6 +363,17 @@ static void a_question(void)
     check(!examine(01004, &word) && waits_for() == KT11B_WAIT_NOTHING, "in FCN 3 it is not asked");
 }
 
+/* A store of 000123 at 002000 by the instruction at 000100, which is stopped: host/test knows the line that this prints. */
+static void a_trace(void)
+{
+    user_runs();
+    put_core_word(020100, 010021);
+    read_word(KT11B_FETCH, 0100);
+    r[7] = 0102;
+    check(goes_on(write_word(DESTINATION, 02000, 0123)) == 0 && running, "a violation is served");
+    print_violation();
+}
+
 static void save_and_restore(void)
 {
     struct saved kept, other;
@@ -409,7 +411,6 @@ int main(void)
     devices_out_of_reach();
     a_question();
     save_and_restore();
-    print_violation();
-    printf("guide: %d checks, all as they should be\n", checks);
-    return 0;
+    a_trace();
+    return all_held();
 }

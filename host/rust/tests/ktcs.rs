@@ -3,7 +3,7 @@
 mod common;
 
 use common::Rig;
-use kt11b::{ktcs, Operation, Register, State, Width};
+use kt11b::{ktcs, Register, State};
 
 fn word(rig: &Rig) -> u16 {
     rig.unit.register(Register::Ktcs).expect("a unit that was made")
@@ -52,7 +52,7 @@ fn user_mode_and_interrupted_user() {
 fn source_and_destination_state() {
     for (state, mark) in [(State::Source, ktcs::SS), (State::Destination, ktcs::DS)] {
         let mut rig = Rig::user();
-        rig.unit.access(&mut rig.memory, Operation::Dati, state, Width::Word, 0o001010, 0);
+        rig.read_in(state, 0o001010);
         assert_eq!(word(&rig), ktcs::UM | mark | 2);
     }
 }

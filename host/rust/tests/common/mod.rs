@@ -47,28 +47,30 @@ impl Rig {
         u16::from_le_bytes([self.memory[place], self.memory[place + 1]])
     }
 
-    /// A word DATI in DESTINATION.
+    /// A word DATI in a state.
+    pub fn read_in(&mut self, state: State, address: u16) -> Reply {
+        self.unit.access(&mut self.memory, Operation::Dati, state, Width::Word, address, 0)
+    }
+
+    /// A DATO in a state.
+    pub fn write_in(&mut self, state: State, address: u16, data: u16) -> Reply {
+        self.unit.access(&mut self.memory, Operation::Dato, state, Width::Word, address, data)
+    }
+
     pub fn read(&mut self, address: u16) -> Reply {
-        let kind = (Operation::Dati, State::Destination, Width::Word);
-        self.unit.access(&mut self.memory, kind.0, kind.1, kind.2, address, 0)
+        self.read_in(State::Destination, address)
     }
 
-    /// A word DATI in FETCH.
     pub fn fetch(&mut self, address: u16) -> Reply {
-        let kind = (Operation::Dati, State::Fetch, Width::Word);
-        self.unit.access(&mut self.memory, kind.0, kind.1, kind.2, address, 0)
+        self.read_in(State::Fetch, address)
     }
 
-    /// A DATO in DESTINATION.
     pub fn write(&mut self, address: u16, data: u16) -> Reply {
-        let kind = (Operation::Dato, State::Destination, Width::Word);
-        self.unit.access(&mut self.memory, kind.0, kind.1, kind.2, address, data)
+        self.write_in(State::Destination, address, data)
     }
 
-    /// A DATO in SERVICE.
     pub fn serve(&mut self, address: u16, data: u16) -> Reply {
-        let kind = (Operation::Dato, State::Service, Width::Word);
-        self.unit.access(&mut self.memory, kind.0, kind.1, kind.2, address, data)
+        self.write_in(State::Service, address, data)
     }
 
     pub fn by_number(&mut self, access: NumberedAccess) -> Reply {
