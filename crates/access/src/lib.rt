@@ -14,23 +14,25 @@ ghost use Rattle.rules.specs.Order.{afterWait, accessed};
 
 // Nothing is due: the steps go on unpaged, or, after step 4, paged.
 fn stepped(m: &[u8], c: Core, r: Maps, q: Access, k: Cells) -> Ran
-    ensures { λ o. ⌜ o ≡ run (now (m .entry)) r (afterWait (now (m .entry)) c r q Due.Steps) k ⌝ }
+    ensures { λ o. ⌜ o ≡ run (now (m .entry)) r (afterWait (now (m .entry)) (k .size) c r q Due.Steps) k ⌝ }
 {
     if pages::unpaged(c.ktcs.fcn, q.state) {
         return unpaged::unpaged_from(m, c, r, q, k);
     }
     let noted = fetched::noted(c, q);
+    let size = k.size;
     let j = Job {
         q,
         core: noted,
         maps: r,
+        size,
     };
     paged::paged_from(m, j, k)
 }
 
 // "2. The wait (2); a due sequence access ends here."
 fn after_wait(m: &[u8], c: Core, r: Maps, q: Access, due: Due, k: Cells) -> Ran
-    ensures { λ o. ⌜ o ≡ run (now (m .entry)) r (afterWait (now (m .entry)) c r q due) k ⌝ }
+    ensures { λ o. ⌜ o ≡ run (now (m .entry)) r (afterWait (now (m .entry)) (k .size) c r q due) k ⌝ }
 {
     let kept = c.kept;
     match due {
@@ -69,7 +71,7 @@ fn after_wait(m: &[u8], c: Core, r: Maps, q: Access, due: Due, k: Cells) -> Ran
 
 // "1. Shape (answer 1).", and on. Memory is read alone: what is to be stored is in the outcome.
 pub fn accessed(m: &[u8], c: Core, r: Maps, q: Access, k: Cells) -> Ran
-    ensures { λ o. ⌜ o ≡ run (now (m .entry)) r (accessed (now (m .entry)) c r q) k ⌝ }
+    ensures { λ o. ⌜ o ≡ run (now (m .entry)) r (accessed (now (m .entry)) (k .size) c r q) k ⌝ }
 {
     if shape::well_shaped(m.len(), q) {
         return after_wait(m, c, r, q, shape::due_of(c, q), k);

@@ -1,12 +1,12 @@
 -- One step of a pass over a list of cells: of the search for a tag, and of a change that is made to each cell in its place.
 use Prim.Native.Nat.{ℕ, suc, _+_, _≤_, _<_}
-use mathlib.Core.Path.{_≡_}
+use mathlib.Core.Path.{_≡_, sym, ap, _∙_}
 use mathlib.Core.List.{List, _++_, map, append-nil}
 use native.Mathlib.Numerals.{add-one}
 use native.Mathlib.Omega.{arith}
 use borrow.Author.Tests.{eq-eqb, ne-eqb}
 use lib.ListN.{length, getD, set, take, drop, drop-of-length-le}
-use lib.Seq.{drop-cons, take-suc-set, drop-set-lt, take-all, append-snoc}
+use lib.Seq.{length-take-le, getD-take, drop-cons, take-suc-set, drop-set-lt, take-all, append-snoc}
 use Rattle.rules.specs.declared.Cell.{Cell}
 use Rattle.rules.specs.declared.Found.{Found}
 use Rattle.rules.specs.Choice.{pick}
@@ -30,6 +30,19 @@ module _ (l : List Cell) (i tag : ℕ) where
   pub found-nowhere : length l ≤ i → soughtFrom l i tag ≡ Found.Missing
   unfolding foundFrom
   found-nowhere past = rw (drop-of-length-le l past)
+
+-- the same among the first n cells of a list
+module _ (l : List Cell) (n i tag : ℕ) (fits : n ≤ length l) where
+  pub first-here : i < n → tag ≡ getD l i emptyCell .tag → soughtFrom (take n l) i tag ≡ Found.At i
+  first-here inside h =
+      found-here (take n l) i tag (rw (length-take-le n l fits) inside) (h ∙ ap (λ (x : Cell). x .tag) (sym (getD-take n l i emptyCell inside)))
+
+  pub first-later : i < n → (tag ≡ getD l i emptyCell .tag → ⊥) → soughtFrom (take n l) i tag ≡ soughtFrom (take n l) (i + 1) tag
+  first-later inside h =
+      found-later (take n l) i tag (rw (length-take-le n l fits) inside) (λ e. h (e ∙ ap (λ (x : Cell). x .tag) (getD-take n l i emptyCell inside)))
+
+  pub first-nowhere : n ≤ i → soughtFrom (take n l) i tag ≡ Found.Missing
+  first-nowhere past = found-nowhere (take n l) i tag (rw (length-take-le n l fits) past)
 
 -- a list whose first i cells were changed by f, and the others still will be
 abbrev pub changing : (Cell → Cell) → List Cell → ℕ → List Cell

@@ -1,33 +1,34 @@
 // The associative cells: which cell holds a page, how a walk fills one, how they are forgotten, emptied and stored into, and what is read of them.
-// Every function takes any counter and any index: past the last cell there is nothing to read, and nothing is stored.
+// Every function takes any counter and any index. A unit has the first so many of the list as its size says: past them there is nothing to
+// read. There is room for more, and what stands there is no matter.
 use rules::Associative;
-use rules::CELLS;
 use rules::Cell;
 use rules::Cells;
 use rules::Found;
 use rules::Part;
+use rules::ROOM;
+use rules::Size;
 ghost use mathlib.Core.Path.{_≡_};
 ghost use mathlib.Core.List.{map};
 ghost use Prim.Native.Nat.{_-_};
-ghost use lib.ListN.{length, getD, set, replicate};
-ghost use Rattle.rules.specs.Unit.{emptyCell, emptied};
+ghost use lib.ListN.{length, getD, set, take, replicate};
+ghost use Rattle.rules.specs.Unit.{countOf, emptyCell, emptied};
 ghost use Rattle.rules.specs.Registers.{foundFrom, peeked, cellStored, padStored};
 ghost use Rattle.rules.specs.Maps.{tagIn, stepped, filled, holds, cellForgotten, forgotten};
 
 // "Emptying a cell sets its tag and word to 0."
 const EMPTY: Cell = Cell { tag: 0, word: 0 };
 
-// The numbers of the first and the last cell, as the counter counts them.
+// The number of the first cell, as the counter counts them.
 const FIRST: u16 = 0o10;
 
-const LAST: u16 = FIRST + CELLS as u16 - 1;
-
-// Which cell of a list holds a page, the first where several do.
-pub fn cell_of(list: [Cell; CELLS], tag: u16) -> Found
-    ensures { λ r. ⌜ r ≡ foundFrom 0 (map tagIn list) tag ⌝ }
+// Which cell holds a page, the first where several do, out of those that a unit of this size has.
+pub fn cell_of(list: [Cell; ROOM], size: Size, tag: u16) -> Found
+    ensures { λ r. ⌜ r ≡ foundFrom 0 (map tagIn (take (countOf size) list)) tag ⌝ }
 {
+    let count = registers::count_of(size);
     let mut i = 0;
-    while i < CELLS {
+    while i < count {
         let held = list[i];
         if tag == held.tag {
             return Found::At(i);
@@ -37,18 +38,22 @@ pub fn cell_of(list: [Cell; CELLS], tag: u16) -> Found
     Found::Missing
 }
 
-// A cell by its place; past the last one, an empty cell.
-pub fn cell_at(list: [Cell; CELLS], i: usize) -> Cell
-    ensures { λ r. ⌜ r ≡ getD list i emptyCell ⌝ }
+// A cell by its place; past the last one that a unit of this size has, an empty cell.
+pub fn cell_at(list: [Cell; ROOM], size: Size, i: usize) -> Cell
+    ensures { λ r. ⌜ r ≡ getD (take (countOf size) list) i emptyCell ⌝ }
 {
-    if i < CELLS { list[i] } else { EMPTY }
+    if i < registers::count_of(size) {
+        list[i]
+    } else {
+        EMPTY
+    }
 }
 
-// The list with one cell changed; past the last one, the list as it is.
-fn with_cell(mut list: [Cell; CELLS], i: usize, held: Cell) -> [Cell; CELLS]
+// The list with one cell changed; where there is no room, the list as it is.
+fn with_cell(mut list: [Cell; ROOM], i: usize, held: Cell) -> [Cell; ROOM]
     ensures { λ r. ⌜ r ≡ set list i held ⌝ }
 {
-    if i < CELLS {
+    if i < ROOM {
         list[i] = held;
     }
     list
@@ -65,11 +70,15 @@ fn cell_named(counter: u16) -> usize
     }
 }
 
-// "then the counter steps 10o to 17o and round". The list comes along for its length, which is known of an array and not of a field.
-fn next_counter(list: [Cell; CELLS], counter: u16) -> u16
-    ensures { λ r. ⌜ r ≡ stepped (length list) counter ⌝ }
+// "then the counter steps 10o to 17o and round", or to 37o with 24 cells: the last is 7 more than there are cells.
+fn next_counter(size: Size, counter: u16) -> u16
+    ensures { λ r. ⌜ r ≡ stepped (countOf size) counter ⌝ }
 {
-    if counter < LAST { counter + 1 } else { FIRST }
+    if (counter as usize) < 7 + registers::count_of(size) {
+        counter + 1
+    } else {
+        FIRST
+    }
 }
 
 // "A finished walk fills the cell the counter names, then the counter steps"
@@ -77,20 +86,22 @@ pub fn filled(k: Cells, tag: u16, word: u16) -> Cells
     ensures { λ r. ⌜ r ≡ filled k tag word ⌝ }
 {
     let list = k.list;
+    let size = k.size;
     let after = with_cell(list, cell_named(k.counter), Cell { tag, word });
-    let counter = next_counter(list, k.counter);
+    let counter = next_counter(size, k.counter);
     Cells {
+        size,
         list: after,
         counter,
     }
 }
 
 // Every cell that holds the page is emptied, so that nothing rests on its being in one cell only.
-fn list_forgotten(mut list: [Cell; CELLS], tag: u16) -> [Cell; CELLS]
+fn list_forgotten(mut list: [Cell; ROOM], tag: u16) -> [Cell; ROOM]
     ensures { λ r. ⌜ r ≡ map (cellForgotten tag) list ⌝ }
 {
     let mut i = 0;
-    while i < CELLS {
+    while i < ROOM {
         let held = list[i];
         list[i] = cell_forgotten(held, tag);
         i += 1;
@@ -116,27 +127,31 @@ pub fn forgotten(k: Cells, tag: u16) -> Cells
     ensures { λ r. ⌜ r ≡ forgotten k tag ⌝ }
 {
     let list = k.list;
+    let size = k.size;
     let after = list_forgotten(list, tag);
     Cells {
+        size,
         list: after,
         counter: k.counter,
     }
 }
 
-// As many empty cells as the list has; it comes along for its length.
-fn list_emptied(list: [Cell; CELLS]) -> [Cell; CELLS]
+// As many empty cells as the list has; it comes along for its length, which is known of an array and not of a field.
+fn list_emptied(list: [Cell; ROOM]) -> [Cell; ROOM]
     ensures { λ r. ⌜ r ≡ replicate (length list) emptyCell ⌝ }
 {
-    [EMPTY; CELLS]
+    [EMPTY; ROOM]
 }
 
-// "empties all cells and sets the counter to 10o"
+// "empties all cells and sets the counter to 10o"; how many there are stays.
 pub fn emptied(k: Cells) -> Cells
     ensures { λ r. ⌜ r ≡ emptied k ⌝ }
 {
     let list = k.list;
+    let size = k.size;
     let after = list_emptied(list);
     Cells {
+        size,
         list: after,
         counter: FIRST,
     }
@@ -160,9 +175,11 @@ pub fn pad_stored(k: Cells, i: usize, p: Part, v: u16) -> Cells
     ensures { λ r. ⌜ r ≡ padStored k i p v ⌝ }
 {
     let list = k.list;
-    let held = cell_stored(cell_at(list, i), p, v);
+    let size = k.size;
+    let held = cell_stored(cell_at(list, size, i), p, v);
     let after = with_cell(list, i, held);
     Cells {
+        size,
         list: after,
         counter: k.counter,
     }
@@ -176,7 +193,8 @@ pub fn peeked(k: Cells, g: Associative) -> u16
         Associative::Ktmr => k.counter % 256 * 256,
         Associative::Pad(i) => {
             let list = k.list;
-            cell_at(list, i).word
+            let size = k.size;
+            cell_at(list, size, i).word
         }
     }
 }

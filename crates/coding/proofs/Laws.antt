@@ -1,23 +1,24 @@
 -- The coding goes there and back: every unit that can be is its words decoded, and words that hold a unit are its code.
-use Prim.Native.Nat.{ℕ, _+_, _*_, _/_, _%_, _<_, _≤_}
-use mathlib.Core.Path.{_≡_, refl, sym, _∙_}
-use mathlib.Core.Bool.{Bool, true, false}
-use mathlib.Core.List.{List, [], _∷_}
+use Prim.Native.Nat.{ℕ, _+_, _/_, _%_, _<_, _≤_}
+use mathlib.Core.Path.{_≡_, refl, sym, ap, _∙_}
+use mathlib.Core.Bool.{Bool, true, false, _||_}
+use mathlib.Core.List.{List, [], _∷_, _++_, append-assoc}
 use native.Mathlib.Omega.{arith}
 use lib.Dec.{eqb}
-use lib.ListN.{length, getD, drop, length-drop}
+use lib.ListN.{length, getD, take, drop, length-drop, take-append-drop}
 use lib.Seq.{drop-drop}
 use borrow.Author.Tests.{eqb-true, eqb-false, ltb-true, leb-true}
 use Rattle.rules.specs.declared.Wait.{Wait}
+use Rattle.rules.specs.declared.Size.{Size}
 use Rattle.rules.specs.declared.Unit.{Unit}
 use Rattle.rules.specs.Choice.{pick}
-use Rattle.rules.specs.Unit.{cellCount, keptCount}
-use Rattle.rules.proofs.Laws.Choices.{both-true}
+use Rattle.rules.specs.Unit.{countOf, room, keptCount}
+use Rattle.rules.proofs.Laws.Choices.{both-true, true-is-not-false}
 use Rattle.rules.proofs.Laws.StatusLaws.{packed-unpacked, unpacked-packed}
-use Rattle.coding.specs.Coding.{coreCount, counterPlace, lastPlace, unitWords}
-use Rattle.coding.specs.Coding.{firstWord, lastWord, waitNumber, waitOf, flagNumber, isUnit, coreOf, mapsOf, listOf, decoded, coreWords, cellsWords, coded}
+use Rattle.coding.specs.Coding.{coreCount, countPlace, counterPlace, tagsPlace, wordsPlace, lastPlace, unitWords}
+use Rattle.coding.specs.Coding.{firstWord, lastWord, waitNumber, waitOf, flagNumber, sizeIn, isUnit, coreOf, mapsOf, listOf, cellsOf, decoded, coreWords, cellsWords, coded}
 use Rattle.coding.proofs.Elements.{elements, elements-then, elements-last}
-use Rattle.coding.proofs.Cells.{cells-there, cells-back, behind-cells}
+use Rattle.coding.proofs.Cells.{tags-back, words-back, cells-coded}
 
 -- what `isUnit` says of words
 pub record UnitWords (w : List ℕ) : Type 0 where
@@ -28,13 +29,15 @@ pub record UnitWords (w : List ℕ) : Type 0 where
   pub datos : getD w 11 0 < 3
   pub accesses : getD w 12 0 < 3
   pub public : getD w 13 0 < 2
+  pub count : (eqb (getD w countPlace 0) 8 || eqb (getD w countPlace 0) 24) ≡ true
   pub from : 0o10 ≤ getD w counterPlace 0
-  pub below : getD w counterPlace 0 < 0o10 + cellCount
+  pub below : getD w counterPlace 0 < 0o10 + countOf (sizeIn (getD w countPlace 0))
 
 pub unit-words : (w : List ℕ) → isUnit w ≡ true → UnitWords w
 unfolding isUnit
 unit-words w h =
-    let h₈ = both-true _ _ h in
+    let h₉ = both-true _ _ h in
+    let h₈ = both-true _ _ (h₉ .0) in
     let h₇ = both-true _ _ (h₈ .0) in
     let h₆ = both-true _ _ (h₇ .0) in
     let h₅ = both-true _ _ (h₆ .0) in
@@ -50,8 +53,9 @@ unit-words w h =
       datos = ltb-true _ _ (h₄ .1);
       accesses = ltb-true _ _ (h₅ .1);
       public = ltb-true _ _ (h₆ .1);
-      from = leb-true _ _ (h₇ .1);
-      below = ltb-true _ _ (h₈ .1);
+      count = h₇ .1;
+      from = leb-true _ _ (h₈ .1);
+      below = ltb-true _ _ (h₉ .1);
     }
 
 -- Parts ----------------------------------------------------------------------------------------------------------------------------
@@ -86,14 +90,40 @@ flag-back n h = go (eqb n 1) refl
     go true e = rw e (sym (eqb-true n 1 e))
     go false e = rw e (omega (arith, eqb-false n 1 e))
 
+pub size-there : (s : Size) → sizeIn (countOf s) ≡ s
+unfolding sizeIn countOf pick
+size-there Size.Eight = refl
+size-there Size.TwentyFour = refl
+
+-- one of the two numbers is that of the size that it is read as
+pub size-back : (n : ℕ) → (eqb n 8 || eqb n 24) ≡ true → countOf (sizeIn n) ≡ n
+unfolding sizeIn countOf pick
+size-back n h = go (eqb n 24) (eqb n 8) refl refl h
+  where
+    go : (a b : Bool) → eqb n 24 ≡ a → eqb n 8 ≡ b → (b || a) ≡ true → countOf (sizeIn n) ≡ n
+    go true b e f t = rw e (sym (eqb-true n 24 e))
+    go false true e f t = rw e (sym (eqb-true n 8 f))
+    go false false e f t = true-is-not-false (sym t)
+
 -- There and back -------------------------------------------------------------------------------------------------------------------
 
 -- The words from the cells on are a unit's cells, counter and end: what changes the core alone leaves them. The length is that of the words' type.
 pub cells-stay : (w : List ℕ) → length w ≡ unitWords → isUnit w ≡ true → drop coreCount w ≡ cellsWords (decoded w .cells)
-unfolding decoded listOf cellsWords elements
+unfolding decoded cellsOf listOf cellsWords elements
 cells-stay w long is =
-    let behind = drop-drop (2 * cellCount) coreCount w ∙ elements-last w counterPlace 2 long in
-    rw (← unit-words w is .last, ← behind) (sym (cells-back cellCount (drop coreCount w) (omega (arith, length-drop coreCount w))))
+    let u = unit-words w is in
+    let tags : room ≤ length (drop tagsPlace w) = omega (arith, length-drop tagsPlace w, long) in
+    let words : room ≤ length (drop wordsPlace w) = omega (arith, length-drop wordsPlace w, long) in
+    let last : drop lastPlace w ≡ lastWord ∷ [] = elements-last w lastPlace 1 long ∙ ap (λ (x : ℕ). x ∷ []) (u .last) in
+    let from-words : drop wordsPlace w ≡ take room (drop wordsPlace w) ++ lastWord ∷ [] =
+    sym (take-append-drop room (drop wordsPlace w)) ∙ ap (λ (x : List ℕ). take room (drop wordsPlace w) ++ x) (drop-drop room wordsPlace w ∙ last) in
+    let from-tags : drop tagsPlace w ≡ take room (drop tagsPlace w) ++ drop wordsPlace w =
+    sym (take-append-drop room (drop tagsPlace w)) ∙ ap (λ (x : List ℕ). take room (drop tagsPlace w) ++ x) (drop-drop room tagsPlace w) in
+    rw (size-back (getD w countPlace 0) (u .count), tags-back room (drop tagsPlace w) (drop wordsPlace w) tags, words-back room (drop tagsPlace w) (drop wordsPlace w) words)
+    (elements-then w coreCount 2 tagsPlace refl (omega (arith, long))
+    ∙ ap (λ (x : List ℕ). getD w countPlace 0 ∷ getD w counterPlace 0 ∷ x)
+    (from-tags ∙ ap (λ (x : List ℕ). take room (drop tagsPlace w) ++ x) from-words
+    ∙ sym (append-assoc (take room (drop tagsPlace w)) (take room (drop wordsPlace w)) (lastWord ∷ []))))
 
 -- Words that hold a unit are the code of what they decode to. The bound, too, is that of the words' type.
 pub coded-decoded : (w : List ℕ) → length w ≡ unitWords → getD w 1 0 < 0o200000 → isUnit w ≡ true → coded (decoded w) ≡ w
@@ -104,15 +134,14 @@ coded-decoded w long small is =
     (simp (packed-unpacked (getD w 1 0) small (u .ktcs), wait-back (getD w 8 0) (u .wait), flag-back (getD w 13 0) (u .public))
     (rw (← u .first) (sym (elements-then w 0 coreCount coreCount refl (omega arith)))))
 
--- A unit that can be: FCN below 4, and as many registers and cells as there are.
+-- A unit that can be: FCN below 4, and as many registers as there are, and cells as there is room for.
 pub record CanBe (u : Unit) : Type 0 where
   pub fcn : u .core .ktcs .fcn < 4
   pub kept : length (u .core .kept) ≡ keptCount
-  pub list : length (u .cells .list) ≡ cellCount
+  pub list : length (u .cells .list) ≡ room
 
 pub decoded-coded : (u : Unit) → CanBe u → decoded (coded u) ≡ u
-unfolding coded decoded coreOf mapsOf listOf coreWords cellsWords elements
+unfolding coded decoded coreOf mapsOf cellsOf listOf coreWords cellsWords elements
 decoded-coded u h =
-    let rest : List ℕ = u .cells .counter ∷ lastWord ∷ [] in
-    simp (unpacked-packed (u .core .ktcs) (h .fcn), wait-there (u .core .wait), flag-there (u .core .fetch .public), cells-there cellCount (u .cells .list) rest (h .list), behind-cells cellCount (u .cells .list) rest 0 (h .list))
+    simp (unpacked-packed (u .core .ktcs) (h .fcn), wait-there (u .core .wait), flag-there (u .core .fetch .public), size-there (u .cells .size), cells-coded room (u .cells .list) (lastWord ∷ []) (h .list))
     (rw (← elements-last (u .core .kept) 0 keptCount (h .kept)))

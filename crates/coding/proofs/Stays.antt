@@ -1,22 +1,26 @@
 -- A unit stays a unit: no call of the rules makes words that hold a unit into words that are refused.
 use Prim.Native.Nat.{ℕ, _<_}
-use mathlib.Core.Path.{_≡_}
-use mathlib.Core.Bool.{Bool, true, false}
+use mathlib.Core.Path.{_≡_, refl, sym, subst}
+use mathlib.Core.Bool.{Bool, true, false, _||_}
 use mathlib.Core.List.{List, [], _∷_}
 use native.Mathlib.Omega.{arith}
+use lib.Dec.{eqb}
 use borrow.Author.Tests.{eq-eqb, lt-ltb, le-leb}
 use Rattle.rules.specs.declared.Wait.{Wait}
+use Rattle.rules.specs.declared.Size.{Size}
 use Rattle.rules.specs.declared.Unit.{Unit}
 use Rattle.rules.specs.declared.Call.{Call}
 use Rattle.rules.specs.Memory.{Memory}
-use Rattle.rules.specs.Unit.{cellCount}
+use Rattle.rules.specs.Unit.{countOf, room}
 use Rattle.rules.specs.Calls.{callOf}
 use Rattle.rules.proofs.Laws.StatusLaws.{packed-zeros}
+use Rattle.rules.proofs.Laws.CellsLaws.{all-there}
+use Rattle.rules.proofs.Sizes.{size-stays}
 use Rattle.rules.proofs.Promises.{UnitFit}
 use Rattle.rules.proofs.Demand3.Ranges.{InRange, call-in-range}
-use Rattle.coding.specs.Coding.{lastWord, waitNumber, flagNumber, isUnit, coreOf, listOf, decoded, coreWords, cellsWords, coded}
+use Rattle.coding.specs.Coding.{lastWord, waitNumber, flagNumber, isUnit, coreOf, listOf, cellsOf, decoded, coreWords, cellsWords, coded}
 use Rattle.coding.proofs.Cells.{length-cells, behind-cells}
-use Rattle.coding.proofs.Laws.{UnitWords, unit-words}
+use Rattle.coding.proofs.Laws.{UnitWords, unit-words, size-there}
 
 wait-small : (w : Wait) → waitNumber w < 4
 unfolding waitNumber
@@ -30,19 +34,22 @@ unfolding flagNumber
 flag-small true = omega arith
 flag-small false = omega arith
 
+one-of-two : (s : Size) → (eqb (countOf s) 8 || eqb (countOf s) 24) ≡ true
+unfolding countOf
+one-of-two Size.Eight = refl
+one-of-two Size.TwentyFour = refl
+
 -- a unit whose counts and counter are in their ranges is not refused for its words
-pub range-is-unit : (u : Unit) → InRange cellCount u → isUnit (coded u) ≡ true
+pub range-is-unit : (u : Unit) → InRange (countOf (u .cells .size)) u → isUnit (coded u) ≡ true
 unfolding isUnit coded coreWords cellsWords
 range-is-unit u h =
     let datos : u .core .fetch .datos < 3 = omega (arith, h .counts .datos) in
     let accesses : u .core .fetch .accesses < 3 = omega (arith, h .counts .accesses) in
-    let rest : List ℕ = u .cells .counter ∷ lastWord ∷ [] in
-    let counter = behind-cells cellCount (u .cells .list) rest 0 (h .cells .number) in
-    let last = behind-cells cellCount (u .cells .list) rest 1 (h .cells .number) in
-    simp (counter, last, eq-eqb _ 0 (packed-zeros (u .core .ktcs)), lt-ltb _ 4 (wait-small (u .core .wait)), lt-ltb _ 3 datos, lt-ltb _ 3 accesses, lt-ltb _ 2 (flag-small (u .core .fetch .public)), le-leb _ _ (h .cells .from), lt-ltb _ _ (h .cells .below))
+    let last = behind-cells room 0 (u .cells .list) (lastWord ∷ []) (h .cells .listed) in
+    simp (last, size-there (u .cells .size), one-of-two (u .cells .size), eq-eqb _ 0 (packed-zeros (u .core .ktcs)), lt-ltb _ 4 (wait-small (u .core .wait)), lt-ltb _ 3 datos, lt-ltb _ 3 accesses, lt-ltb _ 2 (flag-small (u .core .fetch .public)), le-leb _ _ (h .cells .from), lt-ltb _ _ (h .cells .below))
 
 -- UnitFit holds of a fresh unit and after every call (`fresh-fit` and `call-fit` of the rules).
-pub fit-is-unit : (u : Unit) → UnitFit cellCount u → isUnit (coded u) ≡ true
+pub fit-is-unit : (u : Unit) → UnitFit (countOf (u .cells .size)) u → isUnit (coded u) ≡ true
 fit-is-unit u h =
     range-is-unit u
     (record {
@@ -51,15 +58,25 @@ fit-is-unit u h =
     })
 
 -- words that hold a unit have those ranges, whoever wrote them
-decoded-in-range : (w : List ℕ) → isUnit w ≡ true → InRange cellCount (decoded w)
-unfolding decoded coreOf listOf
+decoded-in-range : (w : List ℕ) → isUnit w ≡ true → InRange (countOf (decoded w .cells .size)) (decoded w)
+unfolding decoded coreOf cellsOf listOf
 decoded-in-range w is =
     let h : UnitWords w = unit-words w is in
     record {
       counts = record { datos = omega (arith, h .datos); accesses = omega (arith, h .accesses) };
-      cells = record { number = length-cells cellCount _; from = h .from; below = h .below };
+      cells =
+          record {
+            size = refl;
+            number = all-there (decoded w .cells) (length-cells room _ _);
+            listed = length-cells room _ _;
+            from = h .from;
+            below = h .below;
+          };
     }
 
 -- so words that hold a unit hold one after every call
 pub unit-stays : (m : Memory) (w : List ℕ) (c : Call) → isUnit w ≡ true → isUnit (coded (callOf m (decoded w) c .reply .unit)) ≡ true
-unit-stays m w c is = range-is-unit _ (call-in-range m (decoded w) c (decoded-in-range w is))
+unit-stays m w c is =
+    let after = callOf m (decoded w) c .reply .unit in
+    range-is-unit after
+    (subst (λ (s : Size). InRange (countOf s) after) (sym (size-stays m (decoded w) c)) (call-in-range m (decoded w) c (decoded-in-range w is)))

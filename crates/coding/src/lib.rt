@@ -1,43 +1,50 @@
 // How a unit lies in the words that a host owns: whether words hold a unit, the unit that they hold, and the words of a unit.
-use rules::CELLS;
 use rules::Cell;
 use rules::Cells;
 use rules::Core;
 use rules::Fetch;
 use rules::Maps;
+use rules::ROOM;
+use rules::Size;
 use rules::Unit;
 use rules::Wait;
 ghost use mathlib.Core.Path.{_≡_};
-ghost use mathlib.Core.List.{_++_};
+ghost use mathlib.Core.List.{_++_, map};
 ghost use lib.ListN.{length, take, drop};
-ghost use Rattle.coding.specs.Coding.{coreCount, unitWords, waitNumber, waitOf, flagNumber, isUnit, coreOf, mapsOf, listOf, decoded, coreWords, cellsWords, coded};
+ghost use Rattle.rules.specs.Maps.{tagIn};
+ghost use Rattle.coding.specs.Coding.{coreCount, tagsPlace, lastPlace, unitWords, waitNumber, waitOf, flagNumber, sizeIn, isUnit, coreOf, mapsOf, listOf, cellsOf, decoded, coreWords, wordIn, cellsWords, coded};
 
-// How many words stand before the cells, which take two words each.
-const CORE_WORDS: usize = 16;
+// The places of the number of cells and of the counter, behind the core and the map registers.
+const COUNT_AT: usize = 16;
 
-// The places of the two words behind the cells: the counter and the last.
-const COUNTER_AT: usize = CORE_WORDS + 2 * CELLS;
+const COUNTER_AT: usize = 17;
 
-const LAST_AT: usize = COUNTER_AT + 1;
+// Where the cells' tags begin, and behind them their words.
+const TAGS_AT: usize = 18;
+
+const WORDS_AT: usize = TAGS_AT + ROOM;
+
+// The place of the last word.
+const LAST_AT: usize = WORDS_AT + ROOM;
 
 // How many words a unit takes.
 pub const WORDS: usize = LAST_AT + 1;
 
 // The words at both ends, which never change.
-const FIRST: u16 = 0x544b;
+const FIRST: u16 = 0x324b;
 
 const LAST: u16 = 0x4231;
 
-// The numbers that name a cell, as the counter counts them: from the one to below the other.
-const FIRST_CELL: u16 = 0o10;
-
-const PAST_CELLS: u16 = FIRST_CELL + CELLS as u16;
+// The number that names the first cell, as the counter counts them.
+const FIRST_CELL: usize = 0o10;
 
 // The two ends, and every field that has fewer values than a word: this runs at every access, and branches once.
 pub fn is_unit(w: [u16; WORDS]) -> bool
     ensures { λ r. ⌜ r ≡ isUnit w ⌝ }
 {
-    let counter = w[COUNTER_AT];
+    let count = w[COUNT_AT];
+    let counter = w[COUNTER_AT] as usize;
+    let past_cells = FIRST_CELL + registers::count_of(size_in(count));
     (w[0] == FIRST)
         & (w[LAST_AT] == LAST)
         & (w[1] / 0o100 % 0o40 == 0)
@@ -45,8 +52,9 @@ pub fn is_unit(w: [u16; WORDS]) -> bool
         & (w[11] < 3)
         & (w[12] < 3)
         & (w[13] < 2)
+        & ((count == 8) | (count == 24))
         & (FIRST_CELL <= counter)
-        & (counter < PAST_CELLS)
+        & (counter < past_cells)
 }
 
 pub fn wait_of(n: u16) -> Wait
@@ -81,6 +89,16 @@ pub fn flag_number(b: bool) -> u16
     if b { 1 } else { 0 }
 }
 
+fn size_in(n: u16) -> Size
+    ensures { λ r. ⌜ r ≡ sizeIn n ⌝ }
+{
+    if n == 24 {
+        Size::TwentyFour
+    } else {
+        Size::Eight
+    }
+}
+
 pub fn core_of(w: [u16; WORDS]) -> Core
     ensures { λ r. ⌜ r ≡ coreOf w ⌝ }
 {
@@ -100,21 +118,32 @@ pub fn core_of(w: [u16; WORDS]) -> Core
     }
 }
 
-// The count is fixed, so the compiler makes plain moves of this loop, as of the one that stores the cells.
-pub fn list_of(w: [u16; WORDS]) -> [Cell; CELLS]
+// There is always the same room, so the compiler makes plain moves of this loop, as of the one that stores the cells.
+fn list_of(w: [u16; WORDS]) -> [Cell; ROOM]
     ensures { λ r. ⌜ r ≡ listOf w ⌝ }
 {
-    let mut list = [Cell { tag: 0, word: 0 }; CELLS];
+    let mut list = [Cell { tag: 0, word: 0 }; ROOM];
     let mut i = 0;
-    while i < CELLS {
-        let at = CORE_WORDS + 2 * i;
+    while i < ROOM {
         list[i] = Cell {
-            tag: w[at],
-            word: w[at + 1],
+            tag: w[TAGS_AT + i],
+            word: w[WORDS_AT + i],
         };
         i += 1;
     }
     list
+}
+
+pub fn cells_of(w: [u16; WORDS]) -> Cells
+    ensures { λ r. ⌜ r ≡ cellsOf w ⌝ }
+{
+    let list = list_of(w);
+    let size = size_in(w[COUNT_AT]);
+    Cells {
+        size,
+        list,
+        counter: w[COUNTER_AT],
+    }
 }
 
 pub fn maps_of(w: [u16; WORDS]) -> Maps
@@ -129,15 +158,10 @@ pub fn maps_of(w: [u16; WORDS]) -> Maps
 pub fn decoded(w: [u16; WORDS]) -> Unit
     ensures { λ r. ⌜ r ≡ decoded w ⌝ }
 {
-    let list = list_of(w);
-    let cells = Cells {
-        list,
-        counter: w[COUNTER_AT],
-    };
     Unit {
         core: core_of(w),
         maps: maps_of(w),
-        cells,
+        cells: cells_of(w),
     }
 }
 
@@ -167,23 +191,31 @@ pub fn with_core(w: [u16; WORDS], c: Core, r: Maps) -> [u16; WORDS]
     o
 }
 
-// The cells, the counter and the other end, in the words from the cells on; the others stay. The list comes by itself for its length, which
-// is known of an array and not of a field.
-fn with_cells(w: [u16; WORDS], list: [Cell; CELLS], counter: u16) -> [u16; WORDS]
-    ensures { λ o. ⌜ o ≡ take coreCount w ++ cellsWords (record { list = list; counter = counter }) ⌝ }
+// The tags and the words of all cells for which there is room, each in its place; the others stay.
+fn with_list(w: [u16; WORDS], list: [Cell; ROOM]) -> [u16; WORDS]
+    ensures { λ o. ⌜ o ≡ take tagsPlace w ++ map tagIn list ++ map wordIn list ++ drop lastPlace w ⌝ }
 {
     let mut o = w;
     let mut i = 0;
-    while i < CELLS {
+    while i < ROOM {
         let held = list[i];
-        let at = CORE_WORDS + 2 * i;
-        o[at] = held.tag;
-        o[at + 1] = held.word;
+        o[TAGS_AT + i] = held.tag;
+        o[WORDS_AT + i] = held.word;
         i += 1;
     }
+    o
+}
+
+// The cells, their number, the counter and the other end, in the words from the cells on; the others stay. The list comes by itself for its
+// length, which is known of an array and not of a field.
+fn with_cells(w: [u16; WORDS], size: Size, list: [Cell; ROOM], counter: u16) -> [u16; WORDS]
+    ensures { λ o. ⌜ o ≡ take coreCount w ++ cellsWords (record { size = size; list = list; counter = counter }) ⌝ }
+{
+    let mut o = w;
+    o[COUNT_AT] = registers::count_of(size) as u16;
     o[COUNTER_AT] = counter;
     o[LAST_AT] = LAST;
-    o
+    with_list(o, list)
 }
 
 pub fn coded(u: Unit) -> [u16; WORDS]
@@ -192,6 +224,7 @@ pub fn coded(u: Unit) -> [u16; WORDS]
     let c = u.core;
     let r = u.maps;
     let k = u.cells;
+    let size = k.size;
     let list = k.list;
-    with_cells(with_core([0; WORDS], c, r), list, k.counter)
+    with_cells(with_core([0; WORDS], c, r), size, list, k.counter)
 }

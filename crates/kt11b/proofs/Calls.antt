@@ -12,13 +12,12 @@ use Rattle.rules.specs.Choice.{pick}
 use Rattle.rules.specs.Memory.{Memory}
 use Rattle.rules.specs.Answers.{shown}
 use Rattle.rules.specs.declared.Core.{Core}
-use Rattle.rules.specs.declared.Cell.{Cell}
 use Rattle.rules.specs.declared.Cells.{Cells}
 use Rattle.rules.specs.declared.Access.{Access}
 use Rattle.rules.specs.Order.{accessed}
 use Rattle.rules.specs.Calls.{After, called, settled, callOf}
 use Rattle.rules.specs.Calls.{memoryAfter as effectOn}
-use Rattle.coding.specs.Coding.{coreCount, unitWords, isUnit, coreOf, listOf, decoded, coreWords, cellsWords, coded}
+use Rattle.coding.specs.Coding.{coreCount, unitWords, isUnit, coreOf, cellsOf, decoded, coreWords, cellsWords, coded}
 use Rattle.rules.proofs.Laws.Choices.{picked}
 use Rattle.coding.proofs.Laws.{cells-stay}
 use Rattle.coding.proofs.Stays.{unit-stays}
@@ -65,7 +64,7 @@ unfolding wordsAfter
 unit-after m w c = picked (λ (o : List ℕ). isUnit o ≡ isUnit w) (isUnit w) _ _ (λ is. unit-stays m w c is ∙ sym is) (λ is. refl)
 
 -- An attempt that is done, at the core of a unit's words: a the attempt, o the words written.
-module _ (m : Memory) (w : List ℕ) (q : Access) (a : Attempt) (is : isUnit w ≡ true) (s : Sound a m (λ r. accessed m (decoded w .core) r q) (decoded w .cells)) (over : a .done ≡ true) where
+module _ (m : Memory) (w : List ℕ) (q : Access) (a : Attempt) (is : isUnit w ≡ true) (s : Sound a m (λ r. accessed m (decoded w .cells .size) (decoded w .core) r q) (decoded w .cells)) (over : a .done ≡ true) where
   quick-call :
       callOf m (decoded w) (Call.Access q)
       ≡ record { reply = record { answer = a .outcome .answer; unit = record { core = a .outcome .core; maps = decoded w .maps; cells = decoded w .cells } }; memory = effectOn (a .outcome .effect) m }
@@ -88,10 +87,10 @@ module _ (m : Memory) (w : List ℕ) (q : Access) (a : Attempt) (is : isUnit w �
 
 -- What an attempt owes at the core and the cells of a unit's words.
 pub owed-at :
-    (m : Memory) (w : List ℕ) (q : Access) (a : Attempt) (c : Core) (list : List Cell) → c ≡ coreOf w → list ≡ listOf w
-    → usual (length m) c q ≡ true
-    → (usual (length m) c q ≡ true → (k : Cells) → k .list ≡ list → Sound a m (λ r. accessed m c r q) k)
-    → Sound a m (λ r. accessed m (decoded w .core) r q) (decoded w .cells)
+    (m : Memory) (w : List ℕ) (q : Access) (a : Attempt) (c : Core) (k : Cells) → c ≡ coreOf w → k ≡ cellsOf w
+    → usual (length m) c q ≡ true → (usual (length m) c q ≡ true → Sound a m (λ r. accessed m (k .size) c r q) k)
+    → Sound a m (λ r. accessed m (decoded w .cells .size) (decoded w .core) r q) (decoded w .cells)
 unfolding decoded
-owed-at m w q a c list ce le usually s =
-    subst (λ (x : Core). Sound a m (λ r. accessed m x r q) (decoded w .cells)) ce (s usually (decoded w .cells) (sym le))
+owed-at m w q a c k ce ke usually s =
+    subst (λ (x : Core). Sound a m (λ r. accessed m (cellsOf w .size) x r q) (cellsOf w)) ce
+    (subst (λ (x : Cells). Sound a m (λ r. accessed m (x .size) c r q) x) ke (s usually))

@@ -1,26 +1,38 @@
 // The static library for hosts: the calls of the unit over words that the host owns, and what front panels and debuggers read.
 // No function requires anything: words that don't hold a unit are answered 70, and stay as they are. The C header is host/include/kt11b.h.
 use rules::Access;
+use rules::Making;
 use rules::Reply;
 ghost use mathlib.Core.Path.{_≡_};
 ghost use Rattle.rules.specs.declared.Call.{Call};
 ghost use Rattle.rules.specs.Memory.{Memory};
-ghost use Rattle.rules.specs.Calls.{callOf, fresh};
-ghost use Rattle.rules.specs.Answers.{shown};
+ghost use Rattle.rules.specs.Calls.{callOf};
+ghost use Rattle.rules.specs.Unit.{sizeOf};
+ghost use Rattle.rules.specs.Answers.{shown, makingShown};
 ghost use Rattle.coding.specs.Coding.{decoded, coded};
 ghost use Rattle.replies.specs.Replies.{replyWord};
-ghost use Rattle.panel.specs.Panel.{registerRead, tagRead, wordRead, counterRead, waitRead, pagePlace};
-ghost use Rattle.kt11b.specs.Doors.{wordsAfter, memoryAfter, replyAfter};
+ghost use Rattle.panel.specs.Panel.{registerRead, countRead, tagRead, wordRead, counterRead, waitRead, pagePlace};
+ghost use Rattle.kt11b.specs.Doors.{wordsMade, wordsAfter, memoryAfter, replyAfter};
 
 // Calls ----------------------------------------------------------------------------------------------------------------
 
-// "A fresh unit is all zero, then INIT.", whatever was in the words.
+// "A fresh unit is all zero, then INIT.", with 8 or 24 cells, whatever was in the words. Any other number is answered 30, and the words stay as
+// they were.
 #[no_mangle]
-pub extern "C" fn kt11b_fresh(unit: &mut [u16; coding::WORDS])
-    ensures { λ r. ⌜ now (unit .exit) ≡ coded fresh ⌝ }
+pub extern "C" fn kt11b_fresh(unit: &mut [u16; coding::WORDS], cells: u64) -> u64
+    ensures words { λ r. ⌜ now (unit .exit) ≡ wordsMade (now (unit .entry)) (sizeOf cells) ⌝ }
+    ensures reply { λ r. ⌜ r ≡ replyWord (makingShown (sizeOf cells)) ⌝ }
 {
-    let after = coding::coded(unit::fresh());
-    *unit = after;
+    let how = unit::size_of(cells);
+    let reply = replies::making_replied(how);
+    match how {
+        Making::With(size) => {
+            let after = coding::coded(unit::fresh(size));
+            *unit = after;
+            reply
+        }
+        Making::OtherCount => reply,
+    }
 }
 
 // The unit that a call leaves goes back into its words, and its answer to the host.
@@ -55,8 +67,8 @@ fn by_sort(unit: &mut [u16; coding::WORDS], memory: &mut [u8], q: Access) -> u64
     if coding::is_unit(w) {
         let c = coding::core_of(w);
         if quick::usual(memory.len(), c, q) {
-            let list = coding::list_of(w);
-            let a = quick::attempted(memory, c, q, list);
+            let k = coding::cells_of(w);
+            let a = quick::attempted(memory, c, q, k);
             if a.done {
                 let o = a.outcome;
                 let e = o.effect;
@@ -146,6 +158,14 @@ pub extern "C" fn kt11b_register(unit: &[u16; coding::WORDS], number: usize) -> 
     ensures { λ r. ⌜ r ≡ registerRead (now (unit .entry)) number ⌝ }
 {
     panel::register_read(*unit, number)
+}
+
+// How many cells the unit has.
+#[no_mangle]
+pub extern "C" fn kt11b_cells(unit: &[u16; coding::WORDS]) -> u64
+    ensures { λ r. ⌜ r ≡ countRead (now (unit .entry)) ⌝ }
+{
+    panel::count_read(*unit)
 }
 
 #[no_mangle]

@@ -124,9 +124,10 @@ fn sought(m: &[u8], maps: Maps, user: bool, p: u8, k: Cells) -> Looked
 {
     let tag = pages::tag_of(user, p);
     let list = k.list;
-    match cells::cell_of(list, tag) {
+    let size = k.size;
+    match cells::cell_of(list, size, tag) {
         Found::At(i) => Looked {
-            entry: Entry::Mapped(cells::cell_at(list, i).word),
+            entry: Entry::Mapped(cells::cell_at(list, size, i).word),
             cells: k,
         },
         Found::Missing => missed(k, tag, walk_of(m, maps, user, p)),

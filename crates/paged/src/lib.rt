@@ -32,7 +32,8 @@ fn inner_ruled(m: &[u8], j: Job, ruling: Ruling, k: Cells) -> Ran
         Ruling::Refused(f) => transfer::ended(endings::inner_fault(j, f), k),
         Ruling::Granted(page) => {
             let at = pages::physical_at(page, endings::window_addr(j));
-            let pl = registers::place_of(m.len(), at);
+            let size = j.size;
+            let pl = registers::place_of(size, m.len(), at);
             inner_target(m, j, at, pl, k)
         }
     }
@@ -96,7 +97,8 @@ fn outer_ruled(m: &[u8], j: Job, e: Entry, ruling: Ruling, k: Cells) -> Ran
         Ruling::Refused(f) => transfer::ended(endings::outer_fault(j, f), k),
         Ruling::Granted(page) => {
             let at = pages::physical_at(page, j.q.addr);
-            let pl = registers::place_of(m.len(), at);
+            let size = j.size;
+            let pl = registers::place_of(size, m.len(), at);
             outer_target(m, j, at, e, pl, k)
         }
     }

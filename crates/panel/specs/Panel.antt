@@ -3,12 +3,12 @@ use Prim.Native.Nat.{ℕ, _+_, _-_, _*_}
 use mathlib.Core.Bool.{_&&_}
 use mathlib.Core.List.{List, []}
 use lib.Dec.{eqb, ltb, leb}
-use lib.ListN.{getD, take, drop}
+use lib.ListN.{take, drop}
 use Rattle.rules.specs.declared.Unit.{Unit}
 use Rattle.rules.specs.declared.Register.{Register}
 use Rattle.rules.specs.Choice.{pick}
 use Rattle.rules.specs.Memory.{Memory}
-use Rattle.rules.specs.Unit.{cellCount, emptyCell}
+use Rattle.rules.specs.Unit.{countOf, cellAt}
 use Rattle.rules.specs.Registers.{registerOf}
 use Rattle.rules.specs.Maps.{low9}
 use Rattle.rules.specs.Order.{sourceIn, wordFrom}
@@ -26,15 +26,19 @@ unfoldable pub registerRead : List ℕ → ℕ → ℕ
 registerRead w n =
     pick (isUnit w) (pick (ltb 0 n && ltb n 11) (registerTold (decoded w) (registerOf (n - 1))) misshapen) noUnit
 
--- a number x that is read of the cell at this place: its tag or its word
+-- how many cells the unit has
+unfoldable pub countRead : List ℕ → ℕ
+countRead w = pick (isUnit w) (told 0 (countOf (decoded w .cells .size))) noUnit
+
+-- a number x that is read of the cell at this place, its tag or its word, where the unit has such a cell
 unfoldable pub cellRead : List ℕ → ℕ → ℕ → ℕ
-cellRead w i x = pick (isUnit w) (pick (ltb i cellCount) (told 0 x) misshapen) noUnit
+cellRead w i x = pick (isUnit w) (pick (ltb i (countOf (decoded w .cells .size))) (told 0 x) misshapen) noUnit
 
 abbrev pub tagRead : List ℕ → ℕ → ℕ
-tagRead w i = cellRead w i (getD (decoded w .cells .list) i emptyCell .tag)
+tagRead w i = cellRead w i (cellAt (decoded w .cells) i .tag)
 
 abbrev pub wordRead : List ℕ → ℕ → ℕ
-wordRead w i = cellRead w i (getD (decoded w .cells .list) i emptyCell .word)
+wordRead w i = cellRead w i (cellAt (decoded w .cells) i .word)
 
 unfoldable pub counterRead : List ℕ → ℕ
 counterRead w = pick (isUnit w) (told 0 (decoded w .cells .counter)) noUnit

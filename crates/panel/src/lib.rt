@@ -1,13 +1,12 @@
 // What a front panel or a debugger reads of the words of a unit, and where a map page lies. Nothing here changes anything.
-use rules::CELLS;
 use rules::Cell;
 use rules::Register;
 use rules::Unit;
 ghost use mathlib.Core.Path.{_≡_};
-ghost use lib.ListN.{getD};
-ghost use Rattle.rules.specs.Unit.{emptyCell};
+ghost use Prim.Native.Nat.{_≤_};
+ghost use Rattle.rules.specs.Unit.{countOf, cellAt};
 ghost use Rattle.coding.specs.Coding.{decoded};
-ghost use Rattle.panel.specs.Panel.{registerTold, registerRead, cellRead, tagRead, wordRead, counterRead, waitRead, pagePlace};
+ghost use Rattle.panel.specs.Panel.{registerTold, registerRead, countRead, cellRead, tagRead, wordRead, counterRead, waitRead, pagePlace};
 
 // The number that says that there is no page.
 const NO_PAGE: usize = 0xffffffffffffffff;
@@ -35,12 +34,31 @@ pub fn register_read(w: [u16; coding::WORDS], number: usize) -> u64
     replies::no_unit()
 }
 
-// A number that is read of the cell at this place, if there is such a cell.
+// How many cells these words say.
+fn cells_in(w: [u16; coding::WORDS]) -> usize
+    ensures { λ r. ⌜ (r ≡ countOf (decoded w .cells .size)) × (r ≤ 24) ⌝ }
+{
+    let u = coding::decoded(w);
+    let k = u.cells;
+    let size = k.size;
+    registers::count_of(size)
+}
+
+pub fn count_read(w: [u16; coding::WORDS]) -> u64
+    ensures { λ r. ⌜ r ≡ countRead w ⌝ }
+{
+    if coding::is_unit(w) {
+        return replies::told(0, cells_in(w) as u16);
+    }
+    replies::no_unit()
+}
+
+// A number that is read of the cell at this place, if the unit has such a cell.
 fn cell_read(w: [u16; coding::WORDS], index: usize, number: u16) -> u64
     ensures { λ r. ⌜ r ≡ cellRead w index number ⌝ }
 {
     if coding::is_unit(w) {
-        if index < CELLS {
+        if index < cells_in(w) {
             return replies::told(0, number);
         }
         return replies::misshapen();
@@ -49,12 +67,13 @@ fn cell_read(w: [u16; coding::WORDS], index: usize, number: u16) -> u64
 }
 
 fn cell_in(w: [u16; coding::WORDS], index: usize) -> Cell
-    ensures { λ r. ⌜ r ≡ getD (decoded w .cells .list) index emptyCell ⌝ }
+    ensures { λ r. ⌜ r ≡ cellAt (decoded w .cells) index ⌝ }
 {
     let u = coding::decoded(w);
     let k = u.cells;
     let list = k.list;
-    cells::cell_at(list, index)
+    let size = k.size;
+    cells::cell_at(list, size, index)
 }
 
 pub fn tag_read(w: [u16; coding::WORDS], index: usize) -> u64

@@ -2,8 +2,7 @@
 // An attempt that is not done says nothing; the access then goes by all its steps. Nothing here is a rule: it is there for speed.
 use rules::Access;
 use rules::Answer;
-use rules::CELLS;
-use rules::Cell;
+use rules::Cells;
 use rules::Core;
 use rules::Effect;
 use rules::Entry;
@@ -16,7 +15,6 @@ use rules::Wait;
 ghost use mathlib.Core.Path.{_≡_};
 ghost use mathlib.Core.Bool.{true, false};
 ghost use lib.ListN.{length};
-ghost use Rattle.rules.specs.declared.Cells.{Cells};
 ghost use Rattle.rules.specs.declared.Maps.{Maps};
 ghost use Rattle.rules.specs.declared.Target.{Target};
 ghost use Rattle.rules.specs.Choice.{pick};
@@ -149,7 +147,7 @@ fn other_noted(c: Core, q: Access) -> Core
 
 // A fetch of a word that is not forbidden; c is the core after step 4, v the page's map word.
 fn fetch_ended(m: &[u8], c: Core, q: Access, v: u16, at: usize) -> Attempt
-    ensures { λ o. ⌜ ((k : Cells) → Sound o (now (m .entry)) (λ r. readAt (now (m .entry)) (record { q = q; core = c; maps = r }) at Target.Memory (wordJudged (record { q = q; core = c; maps = r }) at Target.Memory (Entry.Mapped v))) k) ⌝ }
+    ensures { λ o. ⌜ ((k : Cells) → Sound o (now (m .entry)) (λ r. readAt (now (m .entry)) (record { q = q; core = c; maps = r; size = k .size }) at Target.Memory (wordJudged (record { q = q; core = c; maps = r; size = k .size }) at Target.Memory (Entry.Mapped v))) k) ⌝ }
 {
     let w = memory::word_at(m, memory::even_of(at));
     let e = Entry::Mapped(v);
@@ -165,7 +163,7 @@ fn fetch_ended(m: &[u8], c: Core, q: Access, v: u16, at: usize) -> Attempt
 
 // A read or a store in memory.
 fn other_ended(m: &[u8], c: Core, q: Access, at: usize) -> Attempt
-    ensures { λ o. ⌜ ((k : Cells) → Sound o (now (m .entry)) (λ r. transferred (now (m .entry)) (record { q = q; core = c; maps = r }) at Target.Memory) k) ⌝ }
+    ensures { λ o. ⌜ ((k : Cells) → Sound o (now (m .entry)) (λ r. transferred (now (m .entry)) (record { q = q; core = c; maps = r; size = k .size }) at Target.Memory) k) ⌝ }
 {
     if q.op < 2 {
         return ended(c, memory::word_at(m, memory::even_of(at)), at, Effect::Keep);
@@ -176,7 +174,7 @@ fn other_ended(m: &[u8], c: Core, q: Access, at: usize) -> Attempt
 
 // Step 10, and the transfer; c is the core before step 4.
 fn reached(m: &[u8], c: Core, q: Access, v: u16, at: usize) -> Attempt
-    ensures { λ o. ⌜ (calm c ≡ true → (k : Cells) → Sound o (now (m .entry)) (λ r. outerTarget (now (m .entry)) (record { q = q; core = noted c q; maps = r }) at (Entry.Mapped v) (placeOf (length (now (m .entry))) at)) k) ⌝ }
+    ensures { λ o. ⌜ (calm c ≡ true → (k : Cells) → Sound o (now (m .entry)) (λ r. outerTarget (now (m .entry)) (record { q = q; core = noted c q; maps = r; size = k .size }) at (Entry.Mapped v) (placeOf (k .size) (length (now (m .entry))) at)) k) ⌝ }
 {
     if at < m.len() {
         if fetched::is_fetch(q) {
@@ -189,7 +187,7 @@ fn reached(m: &[u8], c: Core, q: Access, v: u16, at: usize) -> Attempt
 
 // Steps 7 to 9, by the word that the page's cell holds.
 fn held(m: &[u8], c: Core, q: Access, v: u16) -> Attempt
-    ensures { λ o. ⌜ (calm c ≡ true → (k : Cells) → Sound o (now (m .entry)) (λ r. outerRuled (now (m .entry)) (record { q = q; core = noted c q; maps = r }) (Entry.Mapped v) (judged (q .op) (watches (noted c q .fetch) q) (Entry.Mapped v))) k) ⌝ }
+    ensures { λ o. ⌜ (calm c ≡ true → (k : Cells) → Sound o (now (m .entry)) (λ r. outerRuled (now (m .entry)) (record { q = q; core = noted c q; maps = r; size = k .size }) (Entry.Mapped v) (judged (q .op) (watches (noted c q .fetch) q) (Entry.Mapped v))) k) ⌝ }
 {
     let f = c.fetch;
     match steps::keys_of(q.op, steps::watches(f, q), v) {
@@ -199,15 +197,17 @@ fn held(m: &[u8], c: Core, q: Access, v: u16) -> Attempt
 }
 
 // Step 6, by the cells alone.
-pub fn attempted(m: &[u8], c: Core, q: Access, list: [Cell; CELLS]) -> Attempt
-    ensures { λ o. ⌜ (usual (length (now (m .entry))) c q ≡ true → (k : Cells) → k .list ≡ list → Sound o (now (m .entry)) (λ r. accessed (now (m .entry)) c r q) k) ⌝ }
+pub fn attempted(m: &[u8], c: Core, q: Access, k: Cells) -> Attempt
+    ensures { λ o. ⌜ (usual (length (now (m .entry))) c q ≡ true → Sound o (now (m .entry)) (λ r. accessed (now (m .entry)) (k .size) c r q) k) ⌝ }
 {
     let p = pages::page_of(q.addr);
     if pages::exec_zero(c.ktcs.um, p) {
         return given_up(c);
     }
-    match cells::cell_of(list, pages::tag_of(c.ktcs.um, p)) {
-        Found::At(i) => held(m, c, q, cells::cell_at(list, i).word),
+    let list = k.list;
+    let size = k.size;
+    match cells::cell_of(list, size, pages::tag_of(c.ktcs.um, p)) {
+        Found::At(i) => held(m, c, q, cells::cell_at(list, size, i).word),
         Found::Missing => given_up(c),
     }
 }

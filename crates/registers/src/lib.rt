@@ -1,7 +1,9 @@
 // The register table: which address is which register, the parts of a word that a store covers, and what is read of the core and the map
 // registers (01, "Registers").
 ghost use mathlib.Core.Path.{_≡_};
-ghost use lib.ListN.{getD, set};
+ghost use lib.ListN.{getD, set, take};
+ghost use Prim.Native.Nat.{_≤_};
+ghost use Rattle.rules.specs.Unit.{countOf};
 ghost use Rattle.rules.specs.Registers.{foundFrom, registerOf, placeIn, placeOf, partOf, merged, operatingWord};
 use rules::Associative;
 use rules::Core;
@@ -11,6 +13,7 @@ use rules::Operating;
 use rules::Part;
 use rules::Place;
 use rules::Register;
+use rules::Size;
 use rules::Target;
 
 // The registers that only remember, counted from KTIC.
@@ -26,6 +29,9 @@ pub const KTAD: usize = 4;
 
 pub const KTDT: usize = 5;
 
+// How many addresses stand before the scratchpad words in the table: KTWN and the ten registers from KTMR to KTEM.
+const BEFORE_PADS: usize = 11;
+
 // The one search, for vectors and for registers.
 pub fn found(list: &[usize], x: usize) -> Found
     ensures { λ r. ⌜ r ≡ foundFrom 0 (now (list .entry)) x ⌝ }
@@ -38,6 +44,17 @@ pub fn found(list: &[usize], x: usize) -> Found
         i += 1;
     }
     Found::Missing
+}
+
+// The same among the first so many of a list, or in all of it where it has fewer.
+fn found_before(list: &[usize], end: usize, x: usize) -> Found
+    ensures { λ r. ⌜ r ≡ foundFrom 0 (take end (now (list .entry))) x ⌝ }
+{
+    if end <= list.len() {
+        found(&list[..end], x)
+    } else {
+        found(list, x)
+    }
 }
 
 // The register with this number, counted from KTMR in the order of their addresses.
@@ -73,14 +90,25 @@ fn place_in(n: usize) -> Place
     }
 }
 
-// What lies at a physical address: "at or beyond L and not a register above" is nowhere.
-pub fn place_of(len: usize, at: usize) -> Place
-    ensures { λ r. ⌜ r ≡ placeOf len at ⌝ }
+// How many cells a unit of this size has, and so how many scratchpad words the table.
+pub fn count_of(size: Size) -> usize
+    ensures { λ r. ⌜ (r ≡ countOf size) × (r ≤ 24) ⌝ }
+{
+    match size {
+        Size::Eight => 8,
+        Size::TwentyFour => 24,
+    }
+}
+
+// What lies at a physical address for a unit of this size: "at or beyond L and not a register above" is nowhere.
+pub fn place_of(size: Size, len: usize, at: usize) -> Place
+    ensures { λ r. ⌜ r ≡ placeOf size len at ⌝ }
 {
     if at < len {
         return Place::There(Target::Memory);
     }
-    match found(&rules::REGISTERS, memory::even_of(at)) {
+    let end = BEFORE_PADS + count_of(size);
+    match found_before(&rules::REGISTERS, end, memory::even_of(at)) {
         Found::At(n) => place_in(n),
         Found::Missing => Place::Nowhere,
     }

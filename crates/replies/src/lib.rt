@@ -1,10 +1,11 @@
 // A reply of the library as one number: its data, its physical address and its answer.
 use rules::Answer;
+use rules::Making;
 use rules::Physical;
 use rules::Returned;
 ghost use mathlib.Core.Path.{_≡_};
 ghost use Prim.Native.Nat.{_<_};
-ghost use Rattle.rules.specs.Answers.{shown};
+ghost use Rattle.rules.specs.Answers.{shown, makingShown};
 ghost use Rattle.replies.specs.Replies.{physicalBits, replyWord, told, noUnit, misshapen};
 
 // Bits 16 to 34. The bound lets the sum of the parts fit.
@@ -45,6 +46,16 @@ pub fn misshapen() -> u64
     ensures { λ r. ⌜ r ≡ misshapen ⌝ }
 {
     told(1, 0)
+}
+
+// What the making of a unit gives.
+pub fn making_replied(how: Making) -> u64
+    ensures { λ o. ⌜ o ≡ replyWord (makingShown how) ⌝ }
+{
+    match how {
+        Making::With(_) => told(0, 0),
+        Making::OtherCount => told(30, 0),
+    }
 }
 
 // An answer of the rules.

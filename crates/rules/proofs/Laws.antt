@@ -4,6 +4,7 @@ pub mod Lists
 pub mod MemoryLaws
 pub mod StatusLaws
 pub mod SearchLaws
+pub mod PlaceLaws
 pub mod KindLaws
 pub mod RunLaws
 pub mod Walks

@@ -3,6 +3,7 @@ pub mod Promises
 pub mod Proved
 pub mod Statements
 pub mod Laws
+pub mod Sizes
 pub mod Demand1
 pub mod Demand3
 pub mod Computed

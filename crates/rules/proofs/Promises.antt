@@ -7,10 +7,10 @@ use mathlib.Core.Logic.{_≢_}
 use mathlib.Core.List.{List, [], _∷_, _++_}
 use lib.Dec.{eqb}
 use lib.ListN.{length, getD}
-use Rattle.rules.specs.Types.{Wait, Ktcs, Fetch, Core, Maps, Cell, Cells, Unit, Access, Call, Found, Target, Place, Entry, Looked, Due, Fault, Answer, Physical, Job}
+use Rattle.rules.specs.Types.{Wait, Ktcs, Fetch, Core, Maps, Cell, Size, Making, Cells, Unit, Access, Call, Found, Target, Place, Entry, Looked, Due, Fault, Answer, Physical, Job}
 use Rattle.rules.specs.Choice.{pick}
 use Rattle.rules.specs.Memory.{Memory}
-use Rattle.rules.specs.Unit.{emptyCell, clearFetch}
+use Rattle.rules.specs.Unit.{countOf, sizeOf, room, there, cellAt, clearFetch}
 use Rattle.rules.specs.Status.{flagsClear}
 use Rattle.rules.specs.Registers.{ktic, ktad, ktdt, placeOf}
 use Rattle.rules.specs.Maps.{unpaged, unpagedAt, pageOf, physicalAt, residentBit, publicBit, writeBit, low9, execZero, execZeroEntry, walkOf, entryOf, tagOf, cellOf, looked, forgotten}
@@ -18,15 +18,15 @@ use Rattle.rules.specs.Fetched.{isFetch, isDato, normal, noted}
 use Rattle.rules.specs.Steps.{wellShaped, dueOf, oddWord, watches, forbidden}
 use Rattle.rules.specs.Sequences.{violated, timedOut, trapTwice, vectorListed, idle}
 use Rattle.rules.specs.Order.{wordRead, windowAddr}
-use Rattle.rules.specs.Calls.{After, callOf, freshWith}
-use Rattle.rules.specs.Answers.{shown}
+use Rattle.rules.specs.Calls.{After, callOf, fresh}
+use Rattle.rules.specs.Answers.{shown, makingShown}
 use Rattle.rules.specs.Runs.{Turn, unitAfter, seenAlong, Station, stationAfter, plainOf, plainAlong, History, noneInUse, isOutdated, meets, historyOf}
 
 -- Demand 1: an access under way ------------------------------------------------------------------------------------------
 
--- what was asked, the unit's core as step 4 leaves it, and the map registers
+-- what was asked, the unit's core as step 4 leaves it, the map registers, and how many cells there are
 abbrev pub job : Unit → Access → Job
-job u q = record { q = q; core = noted (u .core) q; maps = u .maps }
+job u q = record { q = q; core = noted (u .core) q; maps = u .maps; size = u .cells .size }
 
 -- step 6 for the page of the access's own address: its entry, and the cells after the look-up
 abbrev pub outer : Memory → Unit → Access → Looked
@@ -56,7 +56,7 @@ abbrev pub innerPhysical : Memory → Unit → Access → ℕ
 innerPhysical m u q = physicalAt (pageNamed (inner m u q .entry)) (windowAddr (job u q))
 
 abbrev pub outerPlace : Memory → Unit → Access → Place
-outerPlace m u q = placeOf (length m) (outerPhysical m u q)
+outerPlace m u q = placeOf (u .cells .size) (length m) (outerPhysical m u q)
 
 -- the word that a paged fetch reads at its target
 abbrev pub wordFetched : Memory → Unit → Access → Target → ℕ
@@ -102,10 +102,10 @@ isWindow Place.Window = true
 isWindow Place.Nowhere = false
 
 -- "3. Unpaged odd word (3)." and step 10
-abbrev pub unpagedTests : Memory → Access → List Test
-unpagedTests m q =
+abbrev pub unpagedTests : Memory → Unit → Access → List Test
+unpagedTests m u q =
     test (oddWord (q .width) (q .addr)) Answer.UnpagedOdd
-    ∷ test (noTarget true (placeOf (length m) (unpagedAt (q .addr)))) (Answer.Fault Fault.NoTarget) ∷ []
+    ∷ test (noTarget true (placeOf (u .cells .size) (length m) (unpagedAt (q .addr)))) (Answer.Fault Fault.NoTarget) ∷ []
 
 -- "11. For a fetch, the word (8).": the word of a target that is there
 abbrev pub wordTests : Memory → Unit → Access → Place → List Test
@@ -131,7 +131,7 @@ abbrev pub innerTests : Memory → Unit → Access → List Test
 innerTests m u q =
     test (oddWord (q .width) (windowAddr (job u q))) (Answer.Fault Fault.OddAddress)
     ∷ (entryTests (q .op) false (inner m u q .entry)
-    ++ (test (noTarget true (placeOf (length m) (innerPhysical m u q))) (Answer.Fault Fault.NoTarget) ∷ []))
+    ++ (test (noTarget true (placeOf (u .cells .size) (length m) (innerPhysical m u q))) (Answer.Fault Fault.NoTarget) ∷ []))
 
 abbrev pub pagedTests : Memory → Unit → Access → List Test
 pagedTests m u q = outerTests m u q ++ pick (isWindow (outerPlace m u q)) (innerTests m u q) []
@@ -149,7 +149,7 @@ waitTests Due.SecondRead ts = []
 abbrev pub testsOf : Memory → Unit → Call → List Test
 testsOf m u (Call.Access q) =
     test (not (wellShaped (length m) q)) Answer.Misshapen
-    ∷ waitTests (dueOf (u .core) q) (pick (unpaged (u .core .ktcs .fcn) (q .state)) (unpagedTests m q) (pagedTests m u q))
+    ∷ waitTests (dueOf (u .core) q) (pick (unpaged (u .core .ktcs .fcn) (q .state)) (unpagedTests m u q) (pagedTests m u q))
 testsOf m u Call.Interrupt = test (not (idle (u .core .wait) (u .core .ktcs .fcn))) Answer.NotDue ∷ []
 testsOf m u (Call.Trap v) =
     test (not (vectorListed v)) Answer.Misshapen ∷ test (not (idle (u .core .wait) (u .core .ktcs .fcn))) Answer.NotDue ∷ []
@@ -255,14 +255,11 @@ pub record Step4Keeps (q : Access) (c d : Core) : Type 0 where
 abbrev pub Step4Leaves : Type 0
 Step4Leaves = (c : Core) (q : Access) → Step4Keeps q c (noted c q)
 
--- a cell by its number, counted from 0; past the last there are empty ones
-abbrev pub cellAt : Cells → ℕ → Cell
-cellAt k i = getD (k .list) i emptyCell
-
 -- Step 6 for a page makes l of the cells k. It fills at most the cell that the counter names; a hit, a walk that timed out and exec page 0 leave
 -- the cells and the counter.
 pub record Step6Keeps (user : Bool) (p : ℕ) (k : Cells) (l : Looked) : Type 0 where
-  pub count : length (l .cells .list) ≡ length (k .list)
+  pub size : l .cells .size ≡ k .size
+  pub count : length (there (l .cells)) ≡ length (there k)
   pub others : (i : ℕ) → i ≢ k .counter - 0o10 → cellAt (l .cells) i ≡ cellAt k i
   pub hit : {i : ℕ} → cellOf k (tagOf user p) ≡ Found.At i → l .cells ≡ k
   pub timed-out : l .entry ≡ Entry.OffMap → l .cells ≡ k
@@ -321,7 +318,8 @@ pub record ViolationKeeps (q : Access) (window : Bool) (f : Fault) (c d : Core) 
 -- Emptying the cell of the page at fault makes l of the cells k: the counter and the cells of other pages stay, and all where the page has none.
 pub record ForgottenKeeps (tag : ℕ) (k l : Cells) : Type 0 where
   pub counter : l .counter ≡ k .counter
-  pub count : length (l .list) ≡ length (k .list)
+  pub size : l .size ≡ k .size
+  pub count : length (there l) ≡ length (there k)
   pub none : tag ≡ 0 → l ≡ k
   pub others : (i : ℕ) → cellAt k i .tag ≢ tag → cellAt l i ≡ cellAt k i
 
@@ -399,11 +397,46 @@ pub record InitKeeps (m : Memory) (u : Unit) (a : After) : Type 0 where
 abbrev pub InitLeaves : Type 0
 InitLeaves = (m : Memory) (u : Unit) → InitKeeps m u (callOf m u Call.Init)
 
+-- Making, and how many cells there are ------------------------------------------------------------------------------------
+
+-- "8 and 24 give a fresh unit .. Every other number gives 30 and no unit." (T-08): the sizes by the number that is asked for
+pub record MadeOrRefused : Type 0 where
+  pub eight : sizeOf 8 ≡ Making.With Size.Eight
+  pub twenty-four : sizeOf 24 ≡ Making.With Size.TwentyFour
+  pub other : (n : ℕ) → n ≢ 8 → n ≢ 24 → sizeOf n ≡ Making.OtherCount
+  -- what is made has as many cells as were asked for
+  pub count : (n : ℕ) (s : Size) → sizeOf n ≡ Making.With s → countOf s ≡ n
+  pub refusal : makingShown Making.OtherCount .number ≡ 30
+
+-- "The number of cells is set by making alone." (T-08)
+abbrev pub SizeStays : Type 0
+SizeStays = (m : Memory) (u : Unit) (c : Call) → callOf m u c .reply .unit .cells .size ≡ u .cells .size
+
+-- two units that differ at most in what stands past the cells that are there
+pub record Alike (u v : Unit) : Type 0 where
+  pub core : u .core ≡ v .core
+  pub maps : u .maps ≡ v .maps
+  pub size : u .cells .size ≡ v .cells .size
+  pub counter : u .cells .counter ≡ v .cells .counter
+  pub cells : there (u .cells) ≡ there (v .cells)
+
+pub record AlikeAfter (a b : After) : Type 0 where
+  pub answer : a .reply .answer ≡ b .reply .answer
+  pub memory : a .memory ≡ b .memory
+  pub units : Alike (a .reply .unit) (b .reply .unit)
+
+-- "They are not there: no search comes to them, no counter names them, no address reads them, and what stands in those words changes no
+-- answer." (T-08)
+abbrev pub AbsentUnseen : Type 0
+AbsentUnseen = (m : Memory) (u v : Unit) (c : Call) → Alike u v → AlikeAfter (callOf m u c) (callOf m v c)
+
 -- Demand 3, first part: always ------------------------------------------------------------------------------------------
 
--- n cells, one of which the counter names: the first of them is 10 octal
+-- a unit's n cells, in a list with room for all, one of which the counter names: the first of them is 10 octal
 pub record NamesCell (n : ℕ) (k : Cells) : Type 0 where
-  pub number : length (k .list) ≡ n
+  pub size : countOf (k .size) ≡ n
+  pub number : length (there k) ≡ n
+  pub listed : length (k .list) ≡ room
   pub from : 0o10 ≤ k .counter
   pub below : k .counter < 0o10 + n
 
@@ -436,9 +469,9 @@ pub record UnitFit (n : ℕ) (u : Unit) : Type 0 where
   pub core : CoreFit (u .core)
   pub cells : CellsFit n (u .cells)
 
--- From a fresh unit, after any calls, each over a memory of its own: so the host may change memory between them. Of any number of cells but none.
+-- From a fresh unit of either size, after any calls, each over a memory of its own: so the host may change memory between them.
 abbrev pub AlwaysFit : Type 0
-AlwaysFit = (n : ℕ) → 0 < n → (ts : List Turn) → UnitFit n (unitAfter (freshWith n) ts)
+AlwaysFit = (s : Size) (ts : List Turn) → UnitFit (countOf s) (unitAfter (fresh s) ts)
 
 -- Exec page zero stands in no cell: its tag is the one that means empty, which no other page has, and a look-up of it gives physical page M of
 -- KTEM whatever the cells hold, and leaves them.
@@ -466,15 +499,15 @@ CellsTrueAt s h =
 -- So it is after every prefix cs of a run cs ++ ds that meets the premises.
 abbrev pub CellsTrueThroughout : Type 0
 CellsTrueThroughout =
-    (n : ℕ) → 0 < n → (m : Memory) (cs ds : List Call) → meets m (freshWith n) noneInUse (cs ++ ds) ≡ true
-    → CellsTrueAt (stationAfter m (freshWith n) cs) (historyOf m (freshWith n) noneInUse cs)
+    (s : Size) (m : Memory) (cs ds : List Call) → meets m (fresh s) noneInUse (cs ++ ds) ≡ true
+    → CellsTrueAt (stationAfter m (fresh s) cs) (historyOf m (fresh s) noneInUse cs)
 
 -- After each call of such a run the answer with its data and physical address, KTCS, the registers, the wait, the fetch memory and every byte of
 -- memory are those of the unit with no cells, which walks the maps on every access.
 abbrev pub SameAsPlain : Type 0
 SameAsPlain =
-    (n : ℕ) (m : Memory) (cs : List Call) → meets m (freshWith n) noneInUse cs ≡ true
-    → seenAlong m (freshWith n) cs ≡ plainAlong m (plainOf (freshWith n)) cs
+    (s : Size) (m : Memory) (cs : List Call) → meets m (fresh s) noneInUse cs ≡ true
+    → seenAlong m (fresh s) cs ≡ plainAlong m (plainOf (fresh s)) cs
 
 -- All of them ------------------------------------------------------------------------------------------------------------
 
@@ -496,6 +529,10 @@ pub record Promises : Type 0 where
   pub exec-trap-unchanged : ExecTrapUnchanged
   pub other-trap-unchanged : OtherTrapUnchanged
   pub init-leaves : InitLeaves
+  -- Making
+  pub made-or-refused : MadeOrRefused
+  pub size-stays : SizeStays
+  pub absent-unseen : AbsentUnseen
   -- Demand 3
   pub always-fit : AlwaysFit
   pub exec-zero-uncelled : ExecZeroUncelled

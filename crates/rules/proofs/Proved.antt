@@ -5,6 +5,7 @@ use Rattle.rules.proofs.Demand1.Ended.{numbers-of-steps, numbered, memo
 use Rattle.rules.proofs.Demand1.Bits.{eighteen-bits}
 use Rattle.rules.proofs.Demand1.Kept.{step4-leaves, step6-leaves}
 use Rattle.rules.proofs.Demand1.Interrupts.{interrupt-leaves, trap-leaves, exec-trap-unchanged, other-trap-unchanged, init-leaves}
+use Rattle.rules.proofs.Sizes.{made-or-refused, size-stays, absent-unseen}
 use Rattle.rules.proofs.Demand3.Wellformed.{always-fit}
 use Rattle.rules.proofs.Laws.Pages.{exec-zero-uncelled}
 use Rattle.rules.proofs.Demand3.SameRun.{cells-true-throughout, same-as-plain}
@@ -28,6 +29,9 @@ promises =
       exec-trap-unchanged = exec-trap-unchanged;
       other-trap-unchanged = other-trap-unchanged;
       init-leaves = init-leaves;
+      made-or-refused = made-or-refused;
+      size-stays = size-stays;
+      absent-unseen = absent-unseen;
       always-fit = always-fit;
       exec-zero-uncelled = exec-zero-uncelled;
       cells-true-throughout = cells-true-throughout;

@@ -1,6 +1,6 @@
 -- What comes back: the number, the data and the physical address of each answer, as 01's table and the sentence below it have them.
 use Prim.Native.Nat.{ℕ}
-use Rattle.rules.specs.Types.{Fault, Answer, Physical, Returned}
+use Rattle.rules.specs.Types.{Making, Fault, Answer, Physical, Returned}
 
 -- a row of 01's table: number, data and physical address
 unfoldable pub shownAs : ℕ → ℕ → Physical → Returned
@@ -25,3 +25,8 @@ shown Answer.Misshapen = shownAs 1 0 Physical.Nowhere
 shown Answer.NotDue = shownAs 2 0 Physical.Nowhere
 shown Answer.UnpagedOdd = shownAs 3 0 Physical.Nowhere
 shown (Answer.Fault f) = faultShown f
+
+-- What the making of a unit gives, which is no call: "Every other number gives 30 and no unit." (T-08)
+unfoldable pub makingShown : Making → Returned
+makingShown (Making.With s) = shownAs 0 0 Physical.Nowhere
+makingShown Making.OtherCount = shownAs 30 0 Physical.Nowhere

@@ -1,10 +1,10 @@
 -- The four calls: what each decides, and the one place at which memory and the map registers change, and the cells other than by a look-up.
 use Prim.Native.Nat.{ℕ}
 use mathlib.Core.List.{[]}
-use Rattle.rules.specs.Types.{Core, Maps, Cells, Unit, Call, Answer, Effect, Ran, Reply}
+use Rattle.rules.specs.Types.{Core, Maps, Size, Cells, Unit, Call, Answer, Effect, Ran, Reply}
 use Rattle.rules.specs.Choice.{pick}
 use Rattle.rules.specs.Memory.{Memory, storeWord, storeByte}
-use Rattle.rules.specs.Unit.{cellCount, emptied, initCore, zeroUnit}
+use Rattle.rules.specs.Unit.{emptied, initCore, zeroUnit}
 use Rattle.rules.specs.Registers.{padStored}
 use Rattle.rules.specs.Maps.{forgotten}
 use Rattle.rules.specs.Sequences.{interrupted, trapped, vectorListed, idle}
@@ -26,11 +26,11 @@ unfoldable pub initOf : Core → Maps → Prog
 initOf c r = done (outcome (Answer.Taken 0) (initCore c) (Effect.Reload r))
 
 -- "Calls: access .., interrupt, trap (vector), INIT."
-unfoldable pub called : Memory → Core → Maps → Call → Prog
-called m c r (Call.Access q) = accessed m c r q
-called m c r Call.Interrupt = interruptOf c
-called m c r (Call.Trap v) = trapOf c v
-called m c r Call.Init = initOf c r
+unfoldable pub called : Memory → Size → Core → Maps → Call → Prog
+called m s c r (Call.Access q) = accessed m s c r q
+called m s c r Call.Interrupt = interruptOf c
+called m s c r (Call.Trap v) = trapOf c v
+called m s c r Call.Init = initOf c r
 
 -- What an effect does to the map registers, to the cells and to memory.
 unfoldable pub mapsAfter : Effect → Maps → Maps
@@ -81,12 +81,8 @@ settled m r d =
 
 -- A call of the unit over lent memory: demand 2's answer, unit and memory.
 unfoldable pub callOf : Memory → Unit → Call → After
-callOf m u c = settled m (u .maps) (run m (u .maps) (called m (u .core) (u .maps) c) (u .cells))
+callOf m u c = settled m (u .maps) (run m (u .maps) (called m (u .cells .size) (u .core) (u .maps) c) (u .cells))
 
--- "A fresh unit is all zero, then INIT.", with n cells
-unfoldable pub freshWith : ℕ → Unit
-freshWith n = callOf [] (zeroUnit n) Call.Init .reply .unit
-
--- and with as many as this unit has
-unfoldable pub fresh : Unit
-fresh = freshWith cellCount
+-- "A fresh unit is all zero, then INIT.", of either size
+unfoldable pub fresh : Size → Unit
+fresh s = callOf [] (zeroUnit s) Call.Init .reply .unit

@@ -8,7 +8,7 @@ use Rattle.rules.specs.Types.{Maps, Cell, Cells, Found, Reads, Walk, Ent
 use Rattle.rules.specs.Choice.{pick}
 use Rattle.rules.specs.Memory.{Memory, wordAt}
 use Rattle.rules.specs.Status.{bitIn}
-use Rattle.rules.specs.Unit.{emptyCell}
+use Rattle.rules.specs.Unit.{countOf, there, emptyCell, cellAt}
 use Rattle.rules.specs.Registers.{foundFrom}
 
 -- "Unpaged: FCN 0, or FCN 1 in a state other than DESTINATION or EXECUTE."
@@ -127,16 +127,20 @@ tagIn h = h .tag
 
 -- which cell holds a page
 unfoldable pub cellOf : Cells → ℕ → Found
-cellOf k tag = foundFrom 0 (map tagIn (k .list)) tag
+cellOf k tag = foundFrom 0 (map tagIn (there k)) tag
 
--- "then the counter steps 10o to 17o and round", the last being 7 more than there are cells
+-- "then the counter steps 10o to 17o and round", the last being 7 more than there are cells: "With 24 the counter runs 10o to 37o" (T-08)
 unfoldable pub stepped : ℕ → ℕ → ℕ
 stepped n counter = pick (ltb counter (0o7 + n)) (counter + 1) 0o10
 
 -- "A finished walk fills the cell the counter names, then the counter steps"; the first cell is named by 10o
 unfoldable pub filled : Cells → ℕ → ℕ → Cells
 filled k tag w =
-    record { list = set (k .list) (k .counter - 0o10) (record { tag = tag; word = w }); counter = stepped (length (k .list)) (k .counter) }
+    record {
+      size = k .size;
+      list = set (k .list) (k .counter - 0o10) (record { tag = tag; word = w });
+      counter = stepped (countOf (k .size)) (k .counter);
+    }
 
 -- "A finished walk fills the cell .. A walk that times out fills nothing."
 unfoldable pub filledBy : Cells → ℕ → Walk → Cells
@@ -149,7 +153,7 @@ missed k tag w = record { entry = entryOf w; cells = filledBy k tag w }
 
 -- "A hit uses the cell."
 unfoldable pub soughtIn : Memory → Maps → Bool → ℕ → Cells → Found → Looked
-soughtIn m r user p k (Found.At i) = record { entry = Entry.Mapped (getD (k .list) i emptyCell .word); cells = k }
+soughtIn m r user p k (Found.At i) = record { entry = Entry.Mapped (cellAt k i .word); cells = k }
 soughtIn m r user p k Found.Missing = missed k (tagOf user p) (walkOf m r user p)
 
 -- Step 6: how an access gets the entry of its page, and what that leaves in the cells.
@@ -167,4 +171,4 @@ cellForgotten tag h = pick (holds tag h) emptyCell h
 
 -- "the cell of the page at fault .. empties"; the counter stays
 unfoldable pub forgotten : Cells → ℕ → Cells
-forgotten k tag = record { list = map (cellForgotten tag) (k .list); counter = k .counter }
+forgotten k tag = record { size = k .size; list = map (cellForgotten tag) (k .list); counter = k .counter }

@@ -3,7 +3,7 @@ use Prim.Native.Nat.{ℕ}
 use mathlib.Core.Bool.{Bool, true, false}
 use lib.Dec.{ltb}
 use lib.ListN.{length, getD, set}
-use Rattle.rules.specs.Types.{Fetch, Core, Maps, Cells, Access, Operating, Associative, Register, Target, Place, Part, Entry, Due, Fault, Ruling, Answer, Effect, Outcome, Job}
+use Rattle.rules.specs.Types.{Fetch, Core, Maps, Size, Cells, Access, Operating, Associative, Register, Target, Place, Part, Entry, Due, Fault, Ruling, Answer, Effect, Outcome, Job}
 use Rattle.rules.specs.Choice.{pick}
 use Rattle.rules.specs.Memory.{Memory, wordAt, evenOf}
 use Rattle.rules.specs.Unit.{withKtcs, withKept, withFetch}
@@ -145,10 +145,11 @@ unpagedTarget m j at Place.Window = unpagedTimeOut j
 unpagedTarget m j at Place.Nowhere = unpagedTimeOut j
 
 -- "3. Unpaged odd word (3).", then step 4
-unfoldable pub unpagedFrom : Memory → Core → Maps → Access → Prog
-unpagedFrom m c r q =
+unfoldable pub unpagedFrom : Memory → Size → Core → Maps → Access → Prog
+unpagedFrom m s c r q =
     pick (oddWord (q .width) (q .addr)) (refused c Answer.UnpagedOdd)
-    (unpagedTarget m (record { q = q; core = noted c q; maps = r }) (unpagedAt (q .addr)) (placeOf (length m) (unpagedAt (q .addr))))
+    (unpagedTarget m (record { q = q; core = noted c q; maps = r; size = s }) (unpagedAt (q .addr))
+    (placeOf s (length m) (unpagedAt (q .addr))))
 
 -- The window's inner access ----------------------------------------------------------------------------------------------
 
@@ -170,7 +171,7 @@ innerTarget m j at Place.Nowhere = innerFault j Fault.NoTarget
 unfoldable pub innerRuled : Memory → Job → Ruling → Prog
 innerRuled m j (Ruling.Refused f) = innerFault j f
 innerRuled m j (Ruling.Granted page) =
-    innerTarget m j (physicalAt page (windowAddr j)) (placeOf (length m) (physicalAt page (windowAddr j)))
+    innerTarget m j (physicalAt page (windowAddr j)) (placeOf (j .size) (length m) (physicalAt page (windowAddr j)))
 
 -- step 5 again, and the inner page's entry for steps 6 to 8, "with no privacy step"
 unfoldable pub windowed : Memory → Job → Prog
@@ -194,7 +195,7 @@ outerTarget m j at e Place.Nowhere = outerFault j Fault.NoTarget
 unfoldable pub outerRuled : Memory → Job → Entry → Ruling → Prog
 outerRuled m j e (Ruling.Refused f) = outerFault j f
 outerRuled m j e (Ruling.Granted page) =
-    outerTarget m j (physicalAt page (j .q .addr)) e (placeOf (length m) (physicalAt page (j .q .addr)))
+    outerTarget m j (physicalAt page (j .q .addr)) e (placeOf (j .size) (length m) (physicalAt page (j .q .addr)))
 
 -- step 5, and step 6's question for the page's entry
 unfoldable pub pagedFrom : Memory → Job → Prog
@@ -210,15 +211,16 @@ sequenced w c = done (outcome (Answer.Taken w) c Effect.Keep)
 
 -- "2. The wait (2); a due sequence access ends here.", a START read with KTPC or KTPS ("They give KTPC, then KTPS, address ignored"). The steps go
 -- on paged, after step 4, or unpaged.
-unfoldable pub afterWait : Memory → Core → Maps → Access → Due → Prog
-afterWait m c r q Due.Steps =
-    pick (unpaged (c .ktcs .fcn) (q .state)) (unpagedFrom m c r q) (pagedFrom m (record { q = q; core = noted c q; maps = r }))
-afterWait m c r q Due.OutOfTurn = refused c Answer.NotDue
-afterWait m c r q Due.StatusStore = sequenced 0 (statusStored c (q .datum))
-afterWait m c r q Due.ProgramCounterStore = sequenced 0 (programCounterStored c (q .addr) (q .datum))
-afterWait m c r q Due.FirstRead = sequenced (getD (c .kept) ktpc 0) (firstReadDone c)
-afterWait m c r q Due.SecondRead = sequenced (getD (c .kept) ktps 0) (userStarted c)
+unfoldable pub afterWait : Memory → Size → Core → Maps → Access → Due → Prog
+afterWait m s c r q Due.Steps =
+    pick (unpaged (c .ktcs .fcn) (q .state)) (unpagedFrom m s c r q)
+    (pagedFrom m (record { q = q; core = noted c q; maps = r; size = s }))
+afterWait m s c r q Due.OutOfTurn = refused c Answer.NotDue
+afterWait m s c r q Due.StatusStore = sequenced 0 (statusStored c (q .datum))
+afterWait m s c r q Due.ProgramCounterStore = sequenced 0 (programCounterStored c (q .addr) (q .datum))
+afterWait m s c r q Due.FirstRead = sequenced (getD (c .kept) ktpc 0) (firstReadDone c)
+afterWait m s c r q Due.SecondRead = sequenced (getD (c .kept) ktps 0) (userStarted c)
 
 -- steps 1 and 2, and on
-unfoldable pub accessed : Memory → Core → Maps → Access → Prog
-accessed m c r q = pick (wellShaped (length m) q) (afterWait m c r q (dueOf c q)) (refused c Answer.Misshapen)
+unfoldable pub accessed : Memory → Size → Core → Maps → Access → Prog
+accessed m s c r q = pick (wellShaped (length m) q) (afterWait m s c r q (dueOf c q)) (refused c Answer.Misshapen)

@@ -4,10 +4,10 @@ use mathlib.Core.Bool.{Bool, true, false}
 use mathlib.Core.List.{List, [], _∷_, _++_}
 use lib.Dec.{eqb, ltb}
 use lib.ListN.{getD, set}
-use Rattle.rules.specs.Types.{Core, Maps, Cell, Cells, Found, Operating, Associative, Register, Target, Place, Part}
+use Rattle.rules.specs.Types.{Core, Maps, Cell, Size, Cells, Found, Operating, Associative, Register, Target, Place, Part}
 use Rattle.rules.specs.Choice.{pick}
 use Rattle.rules.specs.Memory.{evenOf}
-use Rattle.rules.specs.Unit.{cellCount, keptCount, emptyCell}
+use Rattle.rules.specs.Unit.{countOf, cellAt, keptCount}
 use Rattle.rules.specs.Status.{packed}
 
 -- where a list has x first, counting from i: the one search, for vectors, registers, cells and map words
@@ -37,9 +37,10 @@ abbrev pub firstPad : ℕ
 firstPad = 10
 
 -- The table of addresses: KTWN 777572, then the registers: KTMR 777574, KTCS 777576, KTIC 777600, KTSP 777602, KTPC 777604, KTPS 777606,
--- KTAD 777610, KTDT 777612, KTUM 777614, KTEM 777616, and from 777620 the scratchpad words, one a cell.
-unfoldable pub registers : List ℕ
-registers = 0o777572 ∷ wordsFrom 0o777574 firstPad ++ wordsFrom 0o777620 cellCount
+-- KTAD 777610, KTDT 777612, KTUM 777614, KTEM 777616, and from 777620 the scratchpad words, one a cell: to 777636 with 8 cells, "With 24 .. at
+-- 777620o to 777676o" (T-08).
+unfoldable pub registers : ℕ → List ℕ
+registers cells = 0o777572 ∷ wordsFrom 0o777574 firstPad ++ wordsFrom 0o777620 cells
 
 -- which register has this number, counted from KTMR in the order of their addresses
 unfoldable pub registerOf : ℕ → Register
@@ -60,10 +61,10 @@ unfoldable pub placeFound : Found → Place
 placeFound Found.Missing = Place.Nowhere
 placeFound (Found.At n) = placeIn n
 
--- What lies at a physical address, with memory of this length: step 10's "at or beyond L and not a register above". L is at most 760000o,
--- so no register lies in memory.
-unfoldable pub placeOf : ℕ → ℕ → Place
-placeOf len at = pick (ltb at len) (Place.There Target.Memory) (placeFound (foundFrom 0 registers (evenOf at)))
+-- What lies at a physical address, for a unit of this size with memory of this length: step 10's "at or beyond L and not a register above". L is
+-- at most 760000o, so no register lies in memory.
+unfoldable pub placeOf : Size → ℕ → ℕ → Place
+placeOf s len at = pick (ltb at len) (Place.There Target.Memory) (placeFound (foundFrom 0 (registers (countOf s)) (evenOf at)))
 
 -- "DATOB writes the low 8 bits of data", into the byte that its address names; every other store covers the word
 unfoldable pub partOf : ℕ → ℕ → Part
@@ -105,7 +106,7 @@ operatingWord c r Operating.Ktem = r .ktem
 -- "high byte"; a scratchpad word reads what its cell holds, which in an empty one is 0
 unfoldable pub peeked : Cells → Associative → ℕ
 peeked k Associative.Ktmr = k .counter % 256 * 256
-peeked k (Associative.Pad i) = getD (k .list) i emptyCell .word
+peeked k (Associative.Pad i) = cellAt k i .word
 
 -- one cell under a store: it "leaves the tag, and does nothing in an empty cell (H)"
 unfoldable pub cellStored : Cell → Part → ℕ → Cell
@@ -113,4 +114,5 @@ cellStored h p v = pick (eqb (h .tag) 0) h (record { tag = h .tag; word = merged
 
 -- "A store into a scratchpad word leaves the tag, and does nothing in an empty cell (H)."
 unfoldable pub padStored : Cells → ℕ → Part → ℕ → Cells
-padStored k i p v = record { list = set (k .list) i (cellStored (getD (k .list) i emptyCell) p v); counter = k .counter }
+padStored k i p v =
+    record { size = k .size; list = set (k .list) i (cellStored (cellAt k i) p v); counter = k .counter }

@@ -4,7 +4,7 @@ use Prim.Native.Nat.{ℕ}
 use mathlib.Core.Bool.{Bool, true, false, not, _&&_, _||_}
 use mathlib.Core.List.{List, [], _∷_, _++_}
 use lib.Dec.{eqb}
-use Rattle.rules.specs.Types.{Core, Maps, Cells, Unit, Call, Walk, Answer, Effect, Outcome}
+use Rattle.rules.specs.Types.{Core, Maps, Size, Cells, Unit, Call, Walk, Answer, Effect, Outcome}
 use Rattle.rules.specs.Choice.{pick}
 use Rattle.rules.specs.Memory.{Memory, evenOf}
 use Rattle.rules.specs.Registers.{among, peeked}
@@ -53,17 +53,19 @@ unitAfter u (t ∷ ts) = unitAfter (callOf (t .memory) u (t .call) .reply .unit)
 
 -- The unit with no cells -------------------------------------------------------------------------------------------------
 
+-- It has no cells, and registers at the same addresses as the unit that it stands beside, so that both run the same program.
 pub record Plain : Type 0 where
   pub core : Core
   pub maps : Maps
+  pub size : Size
 
 -- a unit without its cells
 unfoldable pub plainOf : Unit → Plain
-plainOf u = record { core = u .core; maps = u .maps }
+plainOf u = record { core = u .core; maps = u .maps; size = u .cells .size }
 
 -- the same rules, "which walks the maps on every access" (demand 3)
 unfoldable pub plainDecision : Memory → Plain → Call → Outcome
-plainDecision m u c = plainRun m (u .maps) (called m (u .core) (u .maps) c)
+plainDecision m u c = plainRun m (u .maps) (called m (u .size) (u .core) (u .maps) c)
 
 -- its decision, carried out: there are no cells to change
 unfoldable pub plainSettled : Memory → Maps → Outcome → Seen
@@ -74,14 +76,14 @@ plainSettled m r o =
 unfoldable pub plainCall : Memory → Plain → Call → Seen
 plainCall m u c = plainSettled m (u .maps) (plainDecision m u c)
 
--- the unit with no cells, as a call left it
-unfoldable pub plainIn : Seen → Plain
-plainIn s = record { core = s .core; maps = s .maps }
+-- the unit with no cells, as a call left it; its size is set by making alone
+unfoldable pub plainIn : Size → Seen → Plain
+plainIn s a = record { core = a .core; maps = a .maps; size = s }
 
 -- what is seen after each call of a run of it
 unfoldable pub plainAlong : Memory → Plain → List Call → List Seen
 plainAlong m u [] = []
-plainAlong m u (c ∷ cs) = plainCall m u c ∷ plainAlong (plainCall m u c .memory) (plainIn (plainCall m u c)) cs
+plainAlong m u (c ∷ cs) = plainCall m u c ∷ plainAlong (plainCall m u c .memory) (plainIn (u .size) (plainCall m u c)) cs
 
 -- What a call did --------------------------------------------------------------------------------------------------------
 
@@ -135,7 +137,7 @@ deedIn m r p k =
 
 -- what a call does
 unfoldable pub deedOf : Memory → Unit → Call → Deed
-deedOf m u c = deedIn m (u .maps) (called m (u .core) (u .maps) c) (u .cells)
+deedOf m u c = deedIn m (u .maps) (called m (u .cells .size) (u .core) (u .maps) c) (u .cells)
 
 -- In use, outdated, forgotten --------------------------------------------------------------------------------------------
 

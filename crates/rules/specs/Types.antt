@@ -5,6 +5,8 @@ pub use Rattle.rules.specs.declared.Wait.{Wait}
 pub use Rattle.rules.specs.declared.Core.{Core}
 pub use Rattle.rules.specs.declared.Maps.{Maps}
 pub use Rattle.rules.specs.declared.Cell.{Cell}
+pub use Rattle.rules.specs.declared.Size.{Size}
+pub use Rattle.rules.specs.declared.Making.{Making}
 pub use Rattle.rules.specs.declared.Cells.{Cells}
 pub use Rattle.rules.specs.declared.Unit.{Unit}
 pub use Rattle.rules.specs.declared.Access.{Access}

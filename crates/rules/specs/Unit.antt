@@ -2,12 +2,27 @@
 use Prim.Native.Nat.{ℕ}
 use mathlib.Core.Bool.{false}
 use mathlib.Core.List.{List, [], _∷_}
-use lib.ListN.{length, replicate}
-use Rattle.rules.specs.Types.{Ktcs, Fetch, Wait, Core, Cell, Cells, Unit}
+use lib.Dec.{eqb}
+use lib.ListN.{length, getD, take, replicate}
+use Rattle.rules.specs.Types.{Ktcs, Fetch, Wait, Core, Cell, Size, Making, Cells, Unit}
+use Rattle.rules.specs.Choice.{pick}
 
--- How many cells the unit has: the only place at which a definition says so.
-abbrev pub cellCount : ℕ
-cellCount = 8
+-- How many cells a unit has: "A unit is made with 8 or 24 cells." (T-08) Everything that 01 says of eight cells reads with this number.
+unfoldable pub countOf : Size → ℕ
+countOf Size.Eight = 8
+countOf Size.TwentyFour = 24
+
+-- what comes of asking for a unit with so many: "making a unit with another count gives 30 and no unit" (T-08)
+unfoldable pub sizeOf : ℕ → Making
+sizeOf n = pick (eqb n 8) (Making.With Size.Eight) (pick (eqb n 24) (Making.With Size.TwentyFour) Making.OtherCount)
+
+-- how many cells there is room for in every unit
+abbrev pub room : ℕ
+room = 24
+
+-- The cells that a unit has. What stands past them is not there: every rule that reads cells reads these.
+unfoldable pub there : Cells → List Cell
+there k = take (countOf (k .size)) (k .list)
 
 -- how many registers with no side effect there are: KTIC, KTSP, KTPC, KTPS, KTAD and KTDT
 abbrev pub keptCount : ℕ
@@ -21,9 +36,13 @@ vectors = 0o4 ∷ 0o10 ∷ 0o14 ∷ 0o20 ∷ 0o24 ∷ 0o30 ∷ 0o34 ∷ []
 unfoldable pub emptyCell : Cell
 emptyCell = record { tag = 0; word = 0 }
 
--- "empties all cells and sets the counter to 10o"
+-- a cell by its number, counted from 0; past the last there are empty ones
+abbrev pub cellAt : Cells → ℕ → Cell
+cellAt k i = getD (there k) i emptyCell
+
+-- "empties all cells and sets the counter to 10o"; how many there are stays
 unfoldable pub emptied : Cells → Cells
-emptied k = record { list = replicate (length (k .list)) emptyCell; counter = 0o10 }
+emptied k = record { size = k .size; list = replicate (length (k .list)) emptyCell; counter = 0o10 }
 
 -- "INIT clears KTCS": all of it
 unfoldable pub clearKtcs : Ktcs
@@ -48,11 +67,11 @@ withFetch c f = record { ktcs = c .ktcs; kept = c .kept; wait = c .wait; fetch =
 unfoldable pub initCore : Core → Core
 initCore c = record { ktcs = clearKtcs; kept = c .kept; wait = Wait.Nothing; fetch = clearFetch }
 
--- "A fresh unit is all zero, then INIT.": the zeros, with n cells. What INIT makes of it is `fresh` of Calls.antt.
-unfoldable pub zeroUnit : ℕ → Unit
-zeroUnit n =
+-- "A fresh unit is all zero, then INIT.": the zeros. What INIT makes of it is `fresh` of Calls.antt.
+unfoldable pub zeroUnit : Size → Unit
+zeroUnit s =
     record {
       core = record { ktcs = clearKtcs; kept = replicate keptCount 0; wait = Wait.Nothing; fetch = clearFetch };
       maps = record { ktum = 0; ktem = 0 };
-      cells = record { list = replicate n emptyCell; counter = 0 };
+      cells = record { size = s; list = replicate room emptyCell; counter = 0 };
     }

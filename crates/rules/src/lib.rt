@@ -71,12 +71,27 @@ pub struct Cell {
     pub word: u16,
 }
 
-// How many cells the unit has.
-pub const CELLS: usize = 8;
+// How many cells a unit is made with: 8 or 24, and no other number. How many each is, is said by `countOf` of specs/Unit.antt.
+pub enum Size {
+    Eight,
+    TwentyFour,
+}
 
-// The cells and the replacement counter, which counts from 10 octal.
+// What comes of asking for a unit with a number of cells.
+pub enum Making {
+    With(Size),
+    // A number that no unit is made with.
+    OtherCount,
+}
+
+// How many cells there is room for: as many as the larger unit has.
+pub const ROOM: usize = 24;
+
+// The cells and the replacement counter, which counts from 10 octal. A unit has the first so many of the list as its size says; those
+// past them are not there, and no rule reads them.
 pub struct Cells {
-    pub list: [Cell; CELLS],
+    pub size: Size,
+    pub list: [Cell; ROOM],
     pub counter: u16,
 }
 
@@ -114,8 +129,9 @@ pub enum Found {
 
 // Registers ------------------------------------------------------------------------------------------------------------
 
-// The addresses of KTWN, KTMR, KTCS, KTIC to KTDT, KTUM, KTEM and the scratchpad words 10 to 17 octal.
-pub const REGISTERS: [usize; 19] = [
+// The addresses of KTWN, KTMR, KTCS, KTIC to KTDT, KTUM, KTEM, and of the scratchpad words 10 to 37 octal. A unit with fewer cells has the first
+// so many of these.
+pub const REGISTERS: [usize; 35] = [
     0o777572,
     0o777574,
     0o777576,
@@ -135,6 +151,22 @@ pub const REGISTERS: [usize; 19] = [
     0o777632,
     0o777634,
     0o777636,
+    0o777640,
+    0o777642,
+    0o777644,
+    0o777646,
+    0o777650,
+    0o777652,
+    0o777654,
+    0o777656,
+    0o777660,
+    0o777662,
+    0o777664,
+    0o777666,
+    0o777670,
+    0o777672,
+    0o777674,
+    0o777676,
 ];
 
 // A register that the core or the map registers answer for: KTCS and those at 777600 to 777616 octal.
@@ -323,11 +355,13 @@ pub struct Ran {
     pub cells: Cells,
 }
 
-// An access under way: what was asked, and the unit as its steps see it.
+// An access under way: what was asked, and the unit as its steps see it. Of the cells they see how many there are, which says where registers
+// stand.
 pub struct Job {
     pub q: Access,
     pub core: Core,
     pub maps: Maps,
+    pub size: Size,
 }
 
 // The answer to a call, and the unit after it.

@@ -1,23 +1,25 @@
-// The calls of the unit: access, interrupt, trap and INIT, and a fresh unit. Here alone memory, cells and map registers change.
+// The calls of the unit: access, interrupt, trap and INIT, and the making of a fresh unit. Here alone memory, cells and map registers change.
 use rules::Access;
 use rules::Answer;
-use rules::CELLS;
 use rules::Call;
 use rules::Cell;
 use rules::Cells;
 use rules::Core;
 use rules::Effect;
 use rules::KEPT;
+use rules::Making;
 use rules::Maps;
 use rules::Outcome;
+use rules::ROOM;
 use rules::Ran;
 use rules::Reply;
+use rules::Size;
 use rules::Unit;
 use rules::Wait;
 ghost use mathlib.Core.Path.{_≡_};
 ghost use Rattle.rules.specs.Memory.{Memory};
 ghost use Rattle.rules.specs.Program.{done};
-ghost use Rattle.rules.specs.Unit.{cellCount, zeroUnit};
+ghost use Rattle.rules.specs.Unit.{sizeOf, zeroUnit};
 ghost use Rattle.rules.specs.Calls.{interruptOf, trapOf, initOf, mapsAfter, cellsAfter, memoryAfter, settled, callOf, fresh};
 
 fn interrupt_of(c: Core) -> Outcome
@@ -158,9 +160,22 @@ pub fn init(u: Unit) -> Reply
     unit_after(r, transfer::ended(init_of(c, r), k))
 }
 
+// The size of a unit with so many cells: "8 and 24 give a fresh unit .. Every other number gives 30 and no unit." (T-08)
+pub fn size_of(cells: u64) -> Making
+    ensures { λ r. ⌜ r ≡ sizeOf cells ⌝ }
+{
+    if cells == 8 {
+        return Making::With(Size::Eight);
+    }
+    if cells == 24 {
+        return Making::With(Size::TwentyFour);
+    }
+    Making::OtherCount
+}
+
 // "all zero"
-fn zero() -> Unit
-    ensures { λ r. ⌜ r ≡ zeroUnit cellCount ⌝ }
+fn zero(size: Size) -> Unit
+    ensures { λ r. ⌜ r ≡ zeroUnit size ⌝ }
 {
     let ktcs = status::clear_ktcs();
     let core = Core {
@@ -171,7 +186,8 @@ fn zero() -> Unit
     };
     let empty = Cell { tag: 0, word: 0 };
     let cells = Cells {
-        list: [empty; CELLS],
+        size,
+        list: [empty; ROOM],
         counter: 0,
     };
     Unit {
@@ -181,10 +197,10 @@ fn zero() -> Unit
     }
 }
 
-// "A fresh unit is all zero, then INIT."
-pub fn fresh() -> Unit
-    ensures { λ r. ⌜ r ≡ fresh ⌝ }
+// "A fresh unit is all zero, then INIT.", of either size.
+pub fn fresh(size: Size) -> Unit
+    ensures { λ r. ⌜ r ≡ fresh size ⌝ }
 {
-    let reply = init(zero());
+    let reply = init(zero(size));
     reply.unit
 }

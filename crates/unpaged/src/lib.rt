@@ -37,18 +37,20 @@ fn unpaged_target(m: &[u8], j: Job, at: usize, pl: Place, k: Cells) -> Ran
 
 // "3. Unpaged odd word (3).", then step 4.
 pub fn unpaged_from(m: &[u8], c: Core, r: Maps, q: Access, k: Cells) -> Ran
-    ensures { λ o. ⌜ o ≡ run (now (m .entry)) r (unpagedFrom (now (m .entry)) c r q) k ⌝ }
+    ensures { λ o. ⌜ o ≡ run (now (m .entry)) r (unpagedFrom (now (m .entry)) (k .size) c r q) k ⌝ }
 {
     if steps::odd_word(q.width, q.addr) {
         return transfer::ended(endings::refused(c, Answer::UnpagedOdd), k);
     }
     let noted = fetched::noted(c, q);
+    let size = k.size;
     let j = Job {
         q,
         core: noted,
         maps: r,
+        size,
     };
     let at = pages::unpaged_at(q.addr);
-    let pl = registers::place_of(m.len(), at);
+    let pl = registers::place_of(size, m.len(), at);
     unpaged_target(m, j, at, pl, k)
 }

@@ -9,8 +9,8 @@ use Rattle.cells.proofs.list_emptied.Tie as tie
 returns : tie.Need-returns
 unfolding emptyCell
 returns c =
-    let eight : length (c .args .list) ≡ 8 = search needs in
-    rw eight
+    let all : length (c .args .list) ≡ 24 = search needs in
+    rw all
 
 pub list-emptied-spec : {M : Type 1} → statement M
 list-emptied-spec = tie.close (tie.spec returns)

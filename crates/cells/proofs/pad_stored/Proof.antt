@@ -1,5 +1,6 @@
 -- A store into a scratchpad word is a store into the cell of its place.
 use borrow.Author.Needs.{needs}
+use Rattle.rules.specs.Unit.{there}
 use Rattle.rules.specs.Registers.{padStored}
 use Rattle.cells.proofs.pad_stored.Statement.{statement}
 use Rattle.cells.proofs.pad_stored.Tie as tie
@@ -14,7 +15,7 @@ with-cell-requires : tie.Need-with-cell-requires
 with-cell-requires c κs = search needs
 
 returns : tie.Need-returns
-unfolding padStored
+unfolding padStored there
 returns c = rw (c .with-cell .ensures, c .before .cell-stored .ensures, c .before .before .cell-at .ensures)
 
 pub pad-stored-spec : {M : Type 1} → statement M

@@ -1,5 +1,6 @@
 -- `cells::peeked` meets its contract.
 use borrow.Author.Needs.{needs}
+use Rattle.rules.specs.Unit.{there}
 use Rattle.rules.specs.Registers.{peeked}
 use Rattle.cells.proofs.peeked.Statement.{statement}
 use Rattle.cells.proofs.peeked.Tie as tie
@@ -21,7 +22,7 @@ unfolding peeked
 returns c = cc
 
 returns-2 : tie.Need-returns-2
-unfolding peeked
+unfolding peeked there
 returns-2 c = cc
 
 pub peeked-spec : {M : Type 1} → statement M

@@ -3,28 +3,25 @@ use Prim.Native.Nat.{_≤_, _-_}
 use mathlib.Core.Path.{_≡_, _∙_, sym}
 use lib.ListN.{length}
 use borrow.Author.Needs.{needs}
-use Rattle.rules.specs.Unit.{cellCount}
-use Rattle.coding.specs.Coding.{coreCount, listOf}
+use Rattle.rules.specs.Unit.{room}
+use Rattle.coding.specs.Coding.{tagsPlace, wordsPlace, listOf}
 use Rattle.coding.proofs.Passes.{reading, read-here, read-all}
 use Rattle.coding.proofs.list_of.Statement.{statement}
 use Rattle.coding.proofs.list_of.Tie as tie
 
 abbrev Inv-loop : tie.InvT-loop
 Inv-loop w list₀ i₀ list i =
-    (i ≤ cellCount) × (length list ≡ cellCount) × (reading cellCount coreCount w list i ≡ listOf w)
+    (i ≤ room) × (length list ≡ room) × (reading room tagsPlace wordsPlace w list i ≡ listOf w)
 
 abbrev μ-loop : tie.MeasureT-loop
-μ-loop w list₀ i₀ list i = cellCount - i
+μ-loop w list₀ i₀ list i = room - i
 
 loop-holds : tie.Need-loop-holds Inv-loop μ-loop
 unfolding listOf
 loop-holds c = search needs
 
-mul-at : tie.Need-mul-at Inv-loop μ-loop
-mul-at c = search needs
-
-add-at : tie.Need-add-at Inv-loop μ-loop
-add-at c = search needs
+add-t7 : tie.Need-add-t7 Inv-loop μ-loop
+add-t7 c = search needs
 
 mul-t8 : tie.Need-mul-t8 Inv-loop μ-loop
 mul-t8 c = search needs
@@ -55,14 +52,14 @@ loop-less c = search needs
 
 loop-again : tie.Need-loop-again Inv-loop μ-loop
 loop-again c =
-    (search needs, search needs, read-here cellCount coreCount _ (c .before .loop .list) (c .before .loop .i) (search needs) (search needs) ∙ c .before .loop .inv .2)
+    (search needs, search needs, read-here room tagsPlace wordsPlace _ (c .before .loop .list) (c .before .loop .i) (search needs) (search needs) ∙ c .before .loop .inv .2)
 
 returns : tie.Need-returns Inv-loop μ-loop
-returns c = sym (read-all cellCount coreCount _ (c .before .loop .list) (c .before .loop .i) (search needs) (search needs)) ∙ c .before .loop .inv .2
+returns c = sym (read-all room tagsPlace wordsPlace _ (c .before .loop .list) (c .before .loop .i) (search needs) (search needs)) ∙ c .before .loop .inv .2
 
 pub list-of-spec : {M : Type 1} → statement M
 list-of-spec =
     tie.close
     (tie.spec
-    Inv-loop μ-loop loop-holds mul-at add-at mul-t8 array-read-t11 add-t12 mul-t13 array-read-t16 mul-list
+    Inv-loop μ-loop loop-holds add-t7 mul-t8 array-read-t11 add-t12 mul-t13 array-read-t16 mul-list
     array-set-from-list add-i loop-less loop-again returns)

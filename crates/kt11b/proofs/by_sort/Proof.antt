@@ -19,8 +19,8 @@ core-of-requires c κs = search needs
 usual-requires : tie.Need-usual-requires
 usual-requires c κs = search needs
 
-list-of-requires : tie.Need-list-of-requires
-list-of-requires c κs = search needs
+cells-of-requires : tie.Need-cells-of-requires
+cells-of-requires c κs = search needs
 
 attempted-requires : tie.Need-attempted-requires
 attempted-requires c κs = search needs
@@ -50,7 +50,7 @@ returns c =
     let is : isUnit w ≡ true = sym (c .before .before .before .before .before .before .before .before .before .before .before .before .before .before .before .before .before .is-unit .ensures) ∙ c .before .before .before .before .before .before .before .before .before .before .before .before .before .before .before .before .if1 .taken in
     let long : length w ≡ unitWords = c .before .with-core .ensures .1 in
     let yes = sym (c .before .before .before .before .before .before .before .before .before .before .before .before .before .before .usual .ensures) ∙ c .before .before .before .before .before .before .before .before .before .before .before .before .before .if2 .taken in
-    let s = owed-at m w q _ _ _ (c .before .before .before .before .before .before .before .before .before .before .before .before .before .before .before .core-of .ensures) (c .before .before .before .before .before .before .before .before .before .before .before .before .list-of .ensures) yes (c .before .before .before .before .before .before .before .before .before .before .attempted .ensures) in
+    let s = owed-at m w q _ _ _ (c .before .before .before .before .before .before .before .before .before .before .before .before .before .before .before .core-of .ensures) (c .before .before .before .before .before .before .before .before .before .before .before .before .cells-of .ensures) yes (c .before .before .before .before .before .before .before .before .before .before .attempted .ensures) in
     let over = c .before .before .before .before .before .before .before .before .before .if3 .taken in (
       quick-words m w q _ is s over _ long (c .before .with-core .ensures .0 ∙ ap (λ (r : Maps). coreWords (c .before .before .before .before .before .before .before .before .before .before .attempted .result .outcome .core) r ++ drop coreCount w) (c .before .before .maps-of .ensures)),
       (quick-memory m w q _ is s over _ (c .before .before .before .before .before .before .store .ensures), quick-reply m w q _ is s over _ (c .replied .ensures)),
@@ -87,7 +87,7 @@ by-sort-spec =
     is-unit-requires
     core-of-requires
     usual-requires
-    list-of-requires
+    cells-of-requires
     attempted-requires
     store-requires
     maps-of-requires

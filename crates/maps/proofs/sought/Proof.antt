@@ -1,6 +1,7 @@
 -- The look-up of a page that may have a cell: a hit or a miss.
 use mathlib.Core.Path.{sym}
 use borrow.Author.Needs.{needs}
+use Rattle.rules.specs.Unit.{there}
 use Rattle.rules.specs.Maps.{soughtIn, cellOf}
 use Rattle.maps.proofs.sought.Statement.{statement}
 use Rattle.maps.proofs.sought.Tie as tie
@@ -27,7 +28,7 @@ missed-requires : tie.Need-missed-requires
 missed-requires c κs = search needs
 
 returns : tie.Need-returns
-unfolding soughtIn cellOf
+unfolding soughtIn cellOf there
 returns c =
     simp (
       sym (c .cell-at .ensures),
@@ -37,7 +38,7 @@ returns c =
     )
 
 returns-2 : tie.Need-returns-2
-unfolding soughtIn cellOf
+unfolding soughtIn cellOf there
 returns-2 c =
     simp (
       sym (c .missed .ensures),

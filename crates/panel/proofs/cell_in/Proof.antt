@@ -1,5 +1,6 @@
 -- `panel::cell_in` meets its contract.
 use mathlib.Core.Path.{sym}
+use Rattle.rules.specs.Unit.{there}
 use borrow.Author.Needs.{needs}
 use Rattle.panel.proofs.cell_in.Statement.{statement}
 use Rattle.panel.proofs.cell_in.Tie as tie
@@ -11,6 +12,7 @@ cell-at-requires : tie.Need-cell-at-requires
 cell-at-requires c κs = search needs
 
 returns : tie.Need-returns
+unfolding there
 returns c = simp (sym (c .before .before .before .decoded .ensures)) (c .cell-at .ensures)
 
 pub cell-in-spec : {M : Type 1} → statement M

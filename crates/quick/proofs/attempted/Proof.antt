@@ -1,7 +1,6 @@
 -- `quick::attempted` meets its contract.
-use mathlib.Core.List.{map}
-use Rattle.rules.specs.Registers.{foundFrom}
-use Rattle.rules.specs.Maps.{execZero, tagOf, tagIn}
+use Rattle.rules.specs.Unit.{there}
+use Rattle.rules.specs.Maps.{execZero, tagOf, cellOf}
 use mathlib.Core.Path.{sym, ap, _∙_}
 use Rattle.quick.proofs.Sounds.{none-owed, attempt-owed}
 use Rattle.rules.specs.declared.Cell.{Cell}
@@ -20,7 +19,7 @@ given-up-requires c κs = search needs
 
 returns : tie.Need-returns
 returns c =
-    λ yes k same. none-owed _ _ _ k (c .given-up .ensures)
+    λ yes. none-owed _ _ _ _ (c .given-up .ensures)
 
 tag-of-requires : tie.Need-tag-of-requires
 tag-of-requires c κs = search needs
@@ -44,12 +43,20 @@ given-up-requires-2 : tie.Need-given-up-requires-2
 given-up-requires-2 c κs = search needs
 
 returns-2 : tie.Need-returns-2
+unfolding cellOf there
 returns-2 c =
-    λ yes k same. attempt-owed (c .before .before .before .before .before .before .before .before .before .before .before .args .m .now) (c .before .before .before .before .before .before .before .before .before .before .before .args .q) _ (c .before .before .before .before .before .before .before .before .before .before .before .args .c) yes (c .before .before .before .before .before .before .before .before .before .before .before .args .list) _ _ (sym (c .before .before .before .before .before .before .before .before .exec-zero .ensures ∙ ap (execZero (c .before .before .before .before .before .before .before .before .before .before .before .args .c .ktcs .um)) (c .before .before .before .before .before .before .before .before .before .page-of .ensures .0)) ∙ c .before .before .before .before .before .before .before .if1 .left) (sym (c .before .before .before .before .before .cell-of .ensures ∙ ap (foundFrom 0 (map tagIn (c .before .before .before .before .before .before .before .before .before .before .before .args .list))) (c .before .before .before .before .before .before .tag-of .ensures ∙ ap (tagOf (c .before .before .before .before .before .before .before .before .before .before .before .args .c .ktcs .um)) (c .before .before .before .before .before .before .before .before .before .page-of .ensures .0))) ∙ c .before .before .before .i .given .1) (ap (λ (x : Cell). x .word) (c .before .cell-at .ensures)) (c .held .ensures) k same
+    let at-start = c .before .before .before .before .before .before .before .before .before .before .before .before .args in
+    let user = at-start .c .ktcs .um in
+    let page = c .before .before .before .before .before .before .before .before .before .before .page-of .ensures .0 in
+    λ yes.
+    attempt-owed (at-start .m .now) (at-start .q) _ (at-start .c) yes (at-start .k) _ _
+    (sym (c .before .before .before .before .before .before .before .before .before .exec-zero .ensures ∙ ap (execZero user) page) ∙ c .before .before .before .before .before .before .before .before .if1 .left)
+    (sym (c .before .before .before .before .before .cell-of .ensures ∙ ap (cellOf (at-start .k)) (c .before .before .before .before .before .before .tag-of .ensures ∙ ap (tagOf user) page)) ∙ c .before .before .before .i .given .1)
+    (ap (λ (x : Cell). x .word) (c .before .cell-at .ensures)) (c .held .ensures)
 
 returns-3 : tie.Need-returns-3
 returns-3 c =
-    λ yes k same. none-owed _ _ _ k (c .given-up2 .ensures)
+    λ yes. none-owed _ _ _ _ (c .given-up2 .ensures)
 
 pub attempted-spec : {M : Type 1} → statement M
 attempted-spec =

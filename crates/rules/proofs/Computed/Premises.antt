@@ -5,13 +5,16 @@ use mathlib.Core.Path.{_≡_, refl, ap}
 use mathlib.Core.Bool.{Bool, true, false}
 use mathlib.Core.List.{List, [], _∷_, _++_, map}
 use lib.ListN.{length, replicate}
-use Rattle.rules.specs.Types.{Call, Unit}
+use Rattle.rules.specs.Types.{Size, Call, Unit}
 use Rattle.rules.specs.Memory.{Memory, storeWord}
+use Rattle.rules.specs.Unit.{there}
 use Rattle.rules.specs.Maps.{tagIn}
 use Rattle.rules.specs.Answers.{shown}
-use Rattle.rules.specs.Calls.{callOf, fresh}
+use Rattle.rules.specs.Calls.{callOf}
 use Rattle.rules.specs.Runs.{Seen, seenIn, seenAlong, stationAfter, plainOf, plainCall, plainAlong, deedOf, Use, unused, inUse, outdated, History, noneInUse, heard, noneOutdated, meets, historyOf}
+use Rattle.rules.proofs.Demand3.SameRun.{same-as-plain}
 use Rattle.rules.proofs.Computed.Opened.{opened}
+use Rattle.rules.proofs.Computed.Units.{eight, twentyFour}
 use Rattle.rules.proofs.Computed.Worked.{A}
 
 -- the number of an answer and its data
@@ -95,10 +98,10 @@ abbrev pub sharedAgain : List Call
 sharedAgain = sharedMoved ++ throughWindow 0o002001 ++ (A 2 4 0 0 0 ∷ A 2 4 0 0 0 ∷ []) ++ throughWindow 0o002000
 
 abbrev pub useAfter : List Call → ℕ → Use
-useAfter cs tag = historyOf memory fresh noneInUse cs tag
+useAfter cs tag = historyOf memory eight noneInUse cs tag
 
 abbrev pub tagsAfter : List Call → List ℕ
-tagsAfter cs = map tagIn (stationAfter memory fresh cs .unit .cells .list)
+tagsAfter cs = map tagIn (there (stationAfter memory eight cs .unit .cells))
 
 pub record PremisesMet : Type 0 where
   pub filled-and-replaced : tagsAfter nineRead ≡ 9 ∷ 2 ∷ 3 ∷ 4 ∷ 5 ∷ 6 ∷ 7 ∷ 8 ∷ []
@@ -108,9 +111,9 @@ pub record PremisesMet : Type 0 where
   pub forgotten-by-fault : useAfter oneFaulted 2 ≡ unused
   pub emptied-by-fault : tagsAfter oneFaulted ≡ 9 ∷ 0 ∷ 3 ∷ 4 ∷ 5 ∷ 6 ∷ 7 ∷ 8 ∷ []
   pub still-outdated : useAfter oneFaulted 1 ≡ outdated
-  pub all-met : meets memory fresh noneInUse allForgotten ≡ true
+  pub all-met : meets memory eight noneInUse allForgotten ≡ true
   pub answers :
-      map toldBy (seenAlong memory fresh allForgotten)
+      map toldBy (seenAlong memory eight allForgotten)
       ≡ ans 0 0 ∷ ans 0 0 ∷ ans 0 0o111 ∷ ans 0 0o111 ∷ ans 0 0o111 ∷ ans 0 0o111 ∷ ans 0 0o111 ∷ ans 0 0o111 ∷ ans 0 0o111 ∷ ans 0 0o111 ∷ ans 0 0o111 ∷ ans 0 0
       ∷ ans 0 0 ∷ ans 4 0 ∷ ans 0 0 ∷ ans 0 0 ∷ ans 0 0o222 ∷ ans 0 0 ∷ ans 0 0o222 ∷ ans 0 0o222 ∷ []
   pub ends-with : tagsAfter allForgotten ≡ 1 ∷ 5 ∷ 0 ∷ 0 ∷ 0 ∷ 0 ∷ 0 ∷ 0 ∷ []
@@ -118,9 +121,9 @@ pub record PremisesMet : Type 0 where
   pub shared-in-use : useAfter sharedRead 130 ≡ inUse (0o003404 ∷ 0o001406 ∷ [])
   pub shared-tags : tagsAfter sharedRead ≡ 127 ∷ 130 ∷ 0 ∷ 0 ∷ 0 ∷ 0 ∷ 0 ∷ 0 ∷ []
   pub shared-outdated : useAfter sharedMoved 130 ≡ outdated
-  pub shared-met : meets memory fresh noneInUse sharedAgain ≡ true
+  pub shared-met : meets memory eight noneInUse sharedAgain ≡ true
   pub shared-answers :
-      map toldBy (seenAlong memory fresh sharedAgain)
+      map toldBy (seenAlong memory eight sharedAgain)
       ≡ ans 0 0 ∷ ans 0 0 ∷ ans 0 0 ∷ ans 0 0 ∷ ans 0 0o111 ∷ ans 0 0 ∷ ans 0 0 ∷ ans 4 0 ∷ ans 0 0 ∷ ans 0 0 ∷ ans 0 0 ∷ ans 0 0o222 ∷ []
 
 pub premises-met : PremisesMet
@@ -173,39 +176,69 @@ abbrev pub beforeHost : List Call
 beforeHost = pagingOn ++ (readPage 1 ∷ [])
 
 abbrev pub hostChanged : Memory
-hostChanged = storeWord (stationAfter memory fresh beforeHost .memory) 0o001402 0o160003
+hostChanged = storeWord (stationAfter memory eight beforeHost .memory) 0o001402 0o160003
+
+-- FCN 1, in which EXECUTE is paged and SOURCE is not: nine pages are read, of which a unit with 24 cells holds the ninth in cell 8. Its
+-- scratchpad word, at 777640o, is stored into, and the page is read again.
+abbrev pub executePage : ℕ → Call
+executePage p = A 0 3 0 (512 * p) 0
+
+abbrev pub ninthStoredRun : List Call
+ninthStoredRun =
+    A 2 1 0 0o177616 0o000001 ∷ A 2 1 0 0o177576 0o000001 ∷ map executePage (1 ∷ 2 ∷ 3 ∷ 4 ∷ 5 ∷ 6 ∷ 7 ∷ 8 ∷ 9 ∷ [])
+    ++ (A 2 1 0 0o177640 0o160003 ∷ executePage 9 ∷ [])
+
+-- what both units answer to the first eleven calls
+abbrev pub nineExecuted : List Told
+nineExecuted =
+    ans 0 0 ∷ ans 0 0 ∷ ans 0 0o111 ∷ ans 0 0o111 ∷ ans 0 0o111 ∷ ans 0 0o111 ∷ ans 0 0o111 ∷ ans 0 0o111 ∷ ans 0 0o111 ∷ ans 0 0o111
+    ∷ ans 0 0o111 ∷ []
 
 pub record EachPremiseNeeded : Type 0 where
   -- a scratchpad store: that call alone breaks a premise, and the last answers differ
-  pub pad-reaches : reachesAlong memory fresh padStoredRun ≡ false ∷ false ∷ false ∷ true ∷ false ∷ []
-  pub pad-current : currentAlong memory fresh noneInUse padStoredRun ≡ true ∷ true ∷ true ∷ true ∷ true ∷ []
-  pub pad-seen : map toldBy (seenAlong memory fresh padStoredRun) ≡ ans 0 0 ∷ ans 0 0 ∷ ans 0 0o111 ∷ ans 0 0 ∷ ans 0 0o222 ∷ []
+  pub pad-reaches : reachesAlong memory eight padStoredRun ≡ false ∷ false ∷ false ∷ true ∷ false ∷ []
+  pub pad-current : currentAlong memory eight noneInUse padStoredRun ≡ true ∷ true ∷ true ∷ true ∷ true ∷ []
+  pub pad-seen : map toldBy (seenAlong memory eight padStoredRun) ≡ ans 0 0 ∷ ans 0 0 ∷ ans 0 0o111 ∷ ans 0 0 ∷ ans 0 0o222 ∷ []
   pub pad-plain :
-      map toldBy (plainAlong memory (plainOf fresh) padStoredRun) ≡ ans 0 0 ∷ ans 0 0 ∷ ans 0 0o111 ∷ ans 0 0 ∷ ans 0 0o111 ∷ []
-  pub pad-differs : seenAlong memory fresh padStoredRun ≡ plainAlong memory (plainOf fresh) padStoredRun → ⊥
+      map toldBy (plainAlong memory (plainOf eight) padStoredRun) ≡ ans 0 0 ∷ ans 0 0 ∷ ans 0 0o111 ∷ ans 0 0 ∷ ans 0 0o111 ∷ []
+  pub pad-differs : seenAlong memory eight padStoredRun ≡ plainAlong memory (plainOf eight) padStoredRun → ⊥
   -- a read of the replacement register
-  pub counter-reaches : reachesAlong memory fresh counterReadRun ≡ true ∷ []
-  pub counter-current : currentAlong memory fresh noneInUse counterReadRun ≡ true ∷ []
-  pub counter-seen : map toldBy (seenAlong memory fresh counterReadRun) ≡ ans 0 0o004000 ∷ []
-  pub counter-plain : map toldBy (plainAlong memory (plainOf fresh) counterReadRun) ≡ ans 0 0 ∷ []
-  pub counter-differs : seenAlong memory fresh counterReadRun ≡ plainAlong memory (plainOf fresh) counterReadRun → ⊥
+  pub counter-reaches : reachesAlong memory eight counterReadRun ≡ true ∷ []
+  pub counter-current : currentAlong memory eight noneInUse counterReadRun ≡ true ∷ []
+  pub counter-seen : map toldBy (seenAlong memory eight counterReadRun) ≡ ans 0 0o004000 ∷ []
+  pub counter-plain : map toldBy (plainAlong memory (plainOf eight) counterReadRun) ≡ ans 0 0 ∷ []
+  pub counter-differs : seenAlong memory eight counterReadRun ≡ plainAlong memory (plainOf eight) counterReadRun → ⊥
   -- a map word stored into and used: the last call alone breaks a premise
-  pub stale-reaches : reachesAlong memory fresh staleRun ≡ false ∷ false ∷ false ∷ false ∷ false ∷ []
-  pub stale-current : currentAlong memory fresh noneInUse staleRun ≡ true ∷ true ∷ true ∷ true ∷ false ∷ []
-  pub stale-seen : map toldBy (seenAlong memory fresh staleRun) ≡ ans 0 0 ∷ ans 0 0 ∷ ans 0 0o111 ∷ ans 0 0 ∷ ans 0 0o111 ∷ []
+  pub stale-reaches : reachesAlong memory eight staleRun ≡ false ∷ false ∷ false ∷ false ∷ false ∷ []
+  pub stale-current : currentAlong memory eight noneInUse staleRun ≡ true ∷ true ∷ true ∷ true ∷ false ∷ []
+  pub stale-seen : map toldBy (seenAlong memory eight staleRun) ≡ ans 0 0 ∷ ans 0 0 ∷ ans 0 0o111 ∷ ans 0 0 ∷ ans 0 0o111 ∷ []
   pub stale-plain :
-      map toldBy (plainAlong memory (plainOf fresh) staleRun) ≡ ans 0 0 ∷ ans 0 0 ∷ ans 0 0o111 ∷ ans 0 0 ∷ ans 0 0o222 ∷ []
-  pub stale-differs : seenAlong memory fresh staleRun ≡ plainAlong memory (plainOf fresh) staleRun → ⊥
+      map toldBy (plainAlong memory (plainOf eight) staleRun) ≡ ans 0 0 ∷ ans 0 0 ∷ ans 0 0o111 ∷ ans 0 0 ∷ ans 0 0o222 ∷ []
+  pub stale-differs : seenAlong memory eight staleRun ≡ plainAlong memory (plainOf eight) staleRun → ⊥
   -- a host that changes memory: every call meets the other premises
-  pub host-met : meets memory fresh noneInUse beforeHost ≡ true
+  pub host-met : meets memory eight noneInUse beforeHost ≡ true
   pub host-met-on :
-      meets hostChanged (stationAfter memory fresh beforeHost .unit) (historyOf memory fresh noneInUse beforeHost) (readPage 1 ∷ []) ≡ true
+      meets hostChanged (stationAfter memory eight beforeHost .unit) (historyOf memory eight noneInUse beforeHost) (readPage 1 ∷ []) ≡ true
   pub host-keeps-length : length hostChanged ≡ length memory
-  pub host-seen : toldBy (seenIn (callOf hostChanged (stationAfter memory fresh beforeHost .unit) (readPage 1))) ≡ ans 0 0o111
-  pub host-plain : toldBy (plainCall hostChanged (plainOf (stationAfter memory fresh beforeHost .unit)) (readPage 1)) ≡ ans 0 0o222
+  pub host-seen : toldBy (seenIn (callOf hostChanged (stationAfter memory eight beforeHost .unit) (readPage 1))) ≡ ans 0 0o111
+  pub host-plain : toldBy (plainCall hostChanged (plainOf (stationAfter memory eight beforeHost .unit)) (readPage 1)) ≡ ans 0 0o222
   pub host-differs :
-      seenIn (callOf hostChanged (stationAfter memory fresh beforeHost .unit) (readPage 1))
-      ≡ plainCall hostChanged (plainOf (stationAfter memory fresh beforeHost .unit)) (readPage 1) → ⊥
+      seenIn (callOf hostChanged (stationAfter memory eight beforeHost .unit) (readPage 1))
+      ≡ plainCall hostChanged (plainOf (stationAfter memory eight beforeHost .unit)) (readPage 1) → ⊥
+
+-- "no call reaches the scratchpad words" means those that the unit has (T-08): with 24 cells a store into 777640o reaches one, and the premise is
+-- needed there too; with 8 the same calls reach none, meet the premises and do not part.
+pub record PadsOfTheUnit : Type 0 where
+  pub reaches :
+      reachesAlong memory twentyFour ninthStoredRun
+      ≡ false ∷ false ∷ false ∷ false ∷ false ∷ false ∷ false ∷ false ∷ false ∷ false ∷ false ∷ true ∷ false ∷ []
+  pub current : currentAlong memory twentyFour noneInUse ninthStoredRun ≡ replicate 13 true
+  pub seen : map toldBy (seenAlong memory twentyFour ninthStoredRun) ≡ nineExecuted ++ (ans 0 0 ∷ ans 0 0o222 ∷ [])
+  pub plain : map toldBy (plainAlong memory (plainOf twentyFour) ninthStoredRun) ≡ nineExecuted ++ (ans 0 0 ∷ ans 0 0o111 ∷ [])
+  pub differs : seenAlong memory twentyFour ninthStoredRun ≡ plainAlong memory (plainOf twentyFour) ninthStoredRun → ⊥
+  pub eight-met : meets memory eight noneInUse ninthStoredRun ≡ true
+  pub eight-seen : map toldBy (seenAlong memory eight ninthStoredRun) ≡ nineExecuted ++ (ans 9 0 ∷ ans 0 0o111 ∷ [])
+  pub eight-same : seenAlong memory eight ninthStoredRun ≡ plainAlong memory (plainOf eight) ninthStoredRun
 
 -- the sum of the data along a run, by which two runs are told apart
 abbrev pub sumOf : List Told → ℕ
@@ -237,4 +270,18 @@ each-premise-needed =
       host-seen = refl;
       host-plain = refl;
       host-differs = λ e. omega (arith, ap (λ (s : Seen). toldBy s .datum) e);
+    }
+
+pub pads-of-the-unit : PadsOfTheUnit
+unfolding opened
+pads-of-the-unit =
+    record {
+      reaches = refl;
+      current = refl;
+      seen = refl;
+      plain = refl;
+      differs = λ e. omega (arith, ap (λ (l : List Seen). sumOf (map toldBy l)) e);
+      eight-met = refl;
+      eight-seen = refl;
+      eight-same = same-as-plain Size.Eight memory ninthStoredRun refl;
     }

@@ -7,9 +7,10 @@ use lib.ListN.{getD}
 use Rattle.rules.specs.Types.{Unit, Access, Call, Physical}
 use Rattle.rules.specs.Memory.{Memory}
 use Rattle.rules.specs.Answers.{shown}
-use Rattle.rules.specs.Calls.{After, callOf, fresh}
+use Rattle.rules.specs.Calls.{After, callOf}
 use Rattle.rules.specs.Runs.{stationAfter}
 use Rattle.rules.proofs.Computed.Opened.{opened}
+use Rattle.rules.proofs.Computed.Units.{eight}
 use Rattle.rules.proofs.Computed.Worked.{A}
 use Rattle.rules.proofs.Promises.{numberOf}
 use Rattle.rules.proofs.Computed.Premises.{memory, pagingOn, readPage}
@@ -28,13 +29,13 @@ physicalOf a = shown (a .reply .answer) .physical
 
 -- "all answers 1": wrong at INIT, which is always accepted
 abbrev pub AllOnesWrong : Type 0
-AllOnesWrong = (p : Program) → ((m : Memory) (u : Unit) (c : Call) → numberOf (p m u c) ≡ 1) → right p [] fresh Call.Init → ⊥
+AllOnesWrong = (p : Program) → ((m : Memory) (u : Unit) (c : Call) → numberOf (p m u c) ≡ 1) → right p [] eight Call.Init → ⊥
 
 -- "a fixed answer", whichever number it has: wrong at INIT, answered by 0, or at a trap by vector 5, which is in no list and answered by 1
 abbrev pub FixedAnswerWrong : Type 0
 FixedAnswerWrong =
     (p : Program) (n : ℕ) → ((m : Memory) (u : Unit) (c : Call) → numberOf (p m u c) ≡ n)
-    → right p [] fresh Call.Init → right p [] fresh (Call.Trap 5) → ⊥
+    → right p [] eight Call.Init → right p [] eight (Call.Trap 5) → ⊥
 
 -- "a call that changes nothing". Of the unit: wrong at a store into KTEM. Of memory: wrong at a store into a memory of one word.
 abbrev pub storeKtem : Call
@@ -48,11 +49,11 @@ oneWord = 0 ∷ 0 ∷ []
 
 abbrev pub UnitUnchangedWrong : Type 0
 UnitUnchangedWrong =
-    (p : Program) → ((m : Memory) (u : Unit) (c : Call) → p m u c .reply .unit ≡ u) → right p [] fresh storeKtem → ⊥
+    (p : Program) → ((m : Memory) (u : Unit) (c : Call) → p m u c .reply .unit ≡ u) → right p [] eight storeKtem → ⊥
 
 abbrev pub MemoryUnchangedWrong : Type 0
 MemoryUnchangedWrong =
-    (p : Program) → ((m : Memory) (u : Unit) (c : Call) → p m u c .memory ≡ m) → right p oneWord fresh storeWordZero → ⊥
+    (p : Program) → ((m : Memory) (u : Unit) (c : Call) → p m u c .memory ≡ m) → right p oneWord eight storeWordZero → ⊥
 
 -- "a unit that translates its first access and then echoes addresses": after its first access, which it does right, each physical address that it
 -- gives is the virtual one.
@@ -70,11 +71,11 @@ abbrev pub readKtic : Call
 readKtic = A 0 1 0 0o177600 0
 
 abbrev pub EchoWrong : Type 0
-EchoWrong = (p : Program) → Echoes p [] fresh readKtic → RightTwice p [] fresh readKtic readKtic → ⊥
+EchoWrong = (p : Program) → Echoes p [] eight readKtic → RightTwice p [] eight readKtic readKtic → ⊥
 
 -- With paging on, as in Premises.antt: page 2 is read, and then page 1, which is physical page 2, so that 001000o is 002000o.
 abbrev pub paging : Unit
-paging = stationAfter memory fresh pagingOn .unit
+paging = stationAfter memory eight pagingOn .unit
 
 abbrev pub PagedEchoWrong : Type 0
 PagedEchoWrong = (p : Program) → Echoes p memory paging (readPage 2) → RightTwice p memory paging (readPage 2) (readPage 1) → ⊥
@@ -83,26 +84,26 @@ PagedEchoWrong = (p : Program) → Echoes p memory paging (readPage 2) → Right
 
 pub all-ones-wrong : AllOnesWrong
 unfolding opened
-all-ones-wrong p one r = let z : _≡_ {A = ℕ} 1 0 = sym (one [] fresh Call.Init) ∙ ap numberOf r in omega arith
+all-ones-wrong p one r = let z : _≡_ {A = ℕ} 1 0 = sym (one [] eight Call.Init) ∙ ap numberOf r in omega arith
 
 pub fixed-answer-wrong : FixedAnswerWrong
 unfolding opened
 fixed-answer-wrong p n fixed r s =
-    let a : n ≡ 0 = sym (fixed [] fresh Call.Init) ∙ ap numberOf r in
-    let b : n ≡ 1 = sym (fixed [] fresh (Call.Trap 5)) ∙ ap numberOf s in
+    let a : n ≡ 0 = sym (fixed [] eight Call.Init) ∙ ap numberOf r in
+    let b : n ≡ 1 = sym (fixed [] eight (Call.Trap 5)) ∙ ap numberOf s in
     omega arith
 
 pub unit-unchanged-wrong : UnitUnchangedWrong
 unfolding opened
 unit-unchanged-wrong p same r =
-    let z : _≡_ {A = ℕ} 0 1 = ap (λ (u : Unit). u .maps .ktem) (sym (same [] fresh storeKtem) ∙ ap (λ (a : After). a .reply .unit) r) in
+    let z : _≡_ {A = ℕ} 0 1 = ap (λ (u : Unit). u .maps .ktem) (sym (same [] eight storeKtem) ∙ ap (λ (a : After). a .reply .unit) r) in
     omega arith
 
 pub memory-unchanged-wrong : MemoryUnchangedWrong
 unfolding opened
 memory-unchanged-wrong p same r =
     let z : _≡_ {A = ℕ} 0 1 =
-    ap (λ (m : Memory). getD m 0 0) (sym (same oneWord fresh storeWordZero) ∙ ap (λ (a : After). a .memory) r) in
+    ap (λ (m : Memory). getD m 0 0) (sym (same oneWord eight storeWordZero) ∙ ap (λ (a : After). a .memory) r) in
     omega arith
 
 -- the second call, after the first, is the rules'
@@ -115,7 +116,7 @@ second-right p m u first second r = ap (λ (a : After). p (a .memory) (a .reply 
 pub echo-wrong : EchoWrong
 unfolding opened
 echo-wrong p echo r =
-    let z : _≡_ {A = ℕ} 0o777600 0o177600 = echo _ 0o777600 (ap physicalOf (second-right p [] fresh readKtic readKtic r)) in
+    let z : _≡_ {A = ℕ} 0o777600 0o177600 = echo _ 0o777600 (ap physicalOf (second-right p [] eight readKtic readKtic r)) in
     omega arith
 
 pub paged-echo-wrong : PagedEchoWrong

@@ -4,17 +4,18 @@ use mathlib.Core.Path.{_≡_, refl}
 use mathlib.Core.Bool.{true, false}
 use mathlib.Core.List.{List, [], _∷_, map}
 use lib.ListN.{replicate}
-use Rattle.rules.specs.Types.{Maps, Cells, Access, Call, Entry, Answer}
+use Rattle.rules.specs.Types.{Maps, Size, Cells, Access, Call, Entry, Answer}
 use Rattle.rules.specs.Memory.{Memory}
-use Rattle.rules.specs.Unit.{cellCount}
+use Rattle.rules.specs.Unit.{countOf, there}
 use Rattle.rules.specs.Maps.{unpagedAt, pageOf, physicalAt, high7, pointedAt, wordWalk, pointerWalk, walkOf, walked, entryOf, looked, stepped, tagIn}
 use Rattle.rules.specs.Answers.{shown}
-use Rattle.rules.specs.Calls.{callOf, fresh}
+use Rattle.rules.specs.Calls.{callOf}
 use Rattle.rules.proofs.Computed.Opened.{opened}
+use Rattle.rules.proofs.Computed.Units.{eight}
 
 -- the fresh unit's answer to an access, which is unpaged
 abbrev pub answerTo : Memory → Access → Answer
-answerTo m q = callOf m fresh (Call.Access q) .reply .answer
+answerTo m q = callOf m eight (Call.Access q) .reply .answer
 
 -- the number of its answer to a word DATI in state SOURCE
 abbrev pub numberAt : Memory → ℕ → ℕ
@@ -57,9 +58,9 @@ pub record Starred : Type 0 where
   -- "L=4: .. 4 times out."
   pub past-the-end : numberAt (replicate 4 0) 4 ≡ 9
   -- "The counter after 17o is 10o: the ninth walk refills the first cell."
-  pub counter-round : stepped cellCount 0o17 ≡ 0o10
+  pub counter-round : stepped (countOf Size.Eight) 0o17 ≡ 0o10
   pub ninth-refills :
-      map tagIn (lookedFor (1 ∷ 2 ∷ 3 ∷ 4 ∷ 5 ∷ 6 ∷ 7 ∷ 8 ∷ 9 ∷ []) (fresh .cells) .list) ≡ 9 ∷ 2 ∷ 3 ∷ 4 ∷ 5 ∷ 6 ∷ 7 ∷ 8 ∷ []
+      map tagIn (there (lookedFor (1 ∷ 2 ∷ 3 ∷ 4 ∷ 5 ∷ 6 ∷ 7 ∷ 8 ∷ 9 ∷ []) (eight .cells))) ≡ 9 ∷ 2 ∷ 3 ∷ 4 ∷ 5 ∷ 6 ∷ 7 ∷ 8 ∷ []
 
 pub starred : Starred
 unfolding opened

@@ -12,9 +12,10 @@ use Rattle.rules.specs.Choice.{pick}
 use Rattle.rules.specs.Memory.{Memory, storeWord}
 use Rattle.rules.specs.Unit.{emptied}
 use Rattle.rules.specs.Program.{run}
-use Rattle.rules.specs.Calls.{After, called, mapsAfter, cellsAfter, memoryAfter, settled, callOf, fresh}
+use Rattle.rules.specs.Calls.{After, called, mapsAfter, cellsAfter, memoryAfter, settled, callOf}
 use Rattle.rules.specs.Runs.{Seen, seenIn, seenAlong, noneInUse, meets}
 use Rattle.rules.proofs.Computed.Opened.{opened}
+use Rattle.rules.proofs.Computed.Units.{eight}
 use Rattle.rules.proofs.Computed.Worked.{A}
 use Rattle.rules.proofs.Computed.Premises.{toldBy, ans, stored, W, memory, pagingOn, readPage, movePage, sumOf}
 
@@ -67,7 +68,7 @@ settledBy f m r d =
     }
 
 abbrev pub callBy : Version → Memory → Unit → Call → After
-callBy f m u c = settledBy (f c) m (u .maps) (run m (u .maps) (called m (u .core) (u .maps) c) (u .cells))
+callBy f m u c = settledBy (f c) m (u .maps) (run m (u .maps) (called m (u .cells .size) (u .core) (u .maps) c) (u .cells))
 
 abbrev pub seenBy : Version → Memory → Unit → List Call → List Seen
 seenBy f m u [] = []
@@ -100,14 +101,14 @@ abbrev pub ktemChanged : List Call
 ktemChanged = A 2 1 0 0o177616 0o000002 ∷ A 2 1 0 0o177576 2 ∷ readPage 1 ∷ A 2 1 0 0o177616 0o000003 ∷ readPage 1 ∷ []
 
 pub record OneDiffers : Type 0 where
-  pub met : meets (twoMaps 0) fresh noneInUse ktumChanged ≡ true
-  pub rules : map toldBy (seenAlong (twoMaps 0) fresh ktumChanged) ≡ ans 0 0 ∷ ans 0 0 ∷ ans 0 0 ∷ ans 0 0o111 ∷ ans 0 0 ∷ ans 0 0o222 ∷ []
-  pub version : map toldBy (seenBy one (twoMaps 0) fresh ktumChanged) ≡ ans 0 0 ∷ ans 0 0 ∷ ans 0 0 ∷ ans 0 0o111 ∷ ans 0 0 ∷ ans 0 0o111 ∷ []
-  pub differs : seenBy one (twoMaps 0) fresh ktumChanged ≡ seenAlong (twoMaps 0) fresh ktumChanged → ⊥
-  pub twin-met : meets (twoMaps 0o400) fresh noneInUse ktemChanged ≡ true
-  pub twin-rules : map toldBy (seenAlong (twoMaps 0o400) fresh ktemChanged) ≡ ans 0 0 ∷ ans 0 0 ∷ ans 0 0o111 ∷ ans 0 0 ∷ ans 0 0o222 ∷ []
-  pub twin-version : map toldBy (seenBy twin (twoMaps 0o400) fresh ktemChanged) ≡ ans 0 0 ∷ ans 0 0 ∷ ans 0 0o111 ∷ ans 0 0 ∷ ans 0 0o111 ∷ []
-  pub twin-differs : seenBy twin (twoMaps 0o400) fresh ktemChanged ≡ seenAlong (twoMaps 0o400) fresh ktemChanged → ⊥
+  pub met : meets (twoMaps 0) eight noneInUse ktumChanged ≡ true
+  pub rules : map toldBy (seenAlong (twoMaps 0) eight ktumChanged) ≡ ans 0 0 ∷ ans 0 0 ∷ ans 0 0 ∷ ans 0 0o111 ∷ ans 0 0 ∷ ans 0 0o222 ∷ []
+  pub version : map toldBy (seenBy one (twoMaps 0) eight ktumChanged) ≡ ans 0 0 ∷ ans 0 0 ∷ ans 0 0 ∷ ans 0 0o111 ∷ ans 0 0 ∷ ans 0 0o111 ∷ []
+  pub differs : seenBy one (twoMaps 0) eight ktumChanged ≡ seenAlong (twoMaps 0) eight ktumChanged → ⊥
+  pub twin-met : meets (twoMaps 0o400) eight noneInUse ktemChanged ≡ true
+  pub twin-rules : map toldBy (seenAlong (twoMaps 0o400) eight ktemChanged) ≡ ans 0 0 ∷ ans 0 0 ∷ ans 0 0o111 ∷ ans 0 0 ∷ ans 0 0o222 ∷ []
+  pub twin-version : map toldBy (seenBy twin (twoMaps 0o400) eight ktemChanged) ≡ ans 0 0 ∷ ans 0 0 ∷ ans 0 0o111 ∷ ans 0 0 ∷ ans 0 0o111 ∷ []
+  pub twin-differs : seenBy twin (twoMaps 0o400) eight ktemChanged ≡ seenAlong (twoMaps 0o400) eight ktemChanged → ⊥
 
 pub one-differs : OneDiffers
 unfolding opened
@@ -131,10 +132,10 @@ byteChanged =
     A 2 1 0 0o177616 0o001001 ∷ A 2 1 0 0o177614 0o000002 ∷ A 2 1 0 0o177576 2 ∷ readPage 1 ∷ A 3 1 1 0o177614 0o000003 ∷ readPage 1 ∷ []
 
 pub record WordsOnlyDiffers : Type 0 where
-  pub met : meets (twoMaps 0) fresh noneInUse byteChanged ≡ true
-  pub rules : map toldBy (seenAlong (twoMaps 0) fresh byteChanged) ≡ ans 0 0 ∷ ans 0 0 ∷ ans 0 0 ∷ ans 0 0o111 ∷ ans 0 0 ∷ ans 0 0o222 ∷ []
-  pub version : map toldBy (seenBy wordsOnly (twoMaps 0) fresh byteChanged) ≡ ans 0 0 ∷ ans 0 0 ∷ ans 0 0 ∷ ans 0 0o111 ∷ ans 0 0 ∷ ans 0 0o111 ∷ []
-  pub differs : seenBy wordsOnly (twoMaps 0) fresh byteChanged ≡ seenAlong (twoMaps 0) fresh byteChanged → ⊥
+  pub met : meets (twoMaps 0) eight noneInUse byteChanged ≡ true
+  pub rules : map toldBy (seenAlong (twoMaps 0) eight byteChanged) ≡ ans 0 0 ∷ ans 0 0 ∷ ans 0 0 ∷ ans 0 0o111 ∷ ans 0 0 ∷ ans 0 0o222 ∷ []
+  pub version : map toldBy (seenBy wordsOnly (twoMaps 0) eight byteChanged) ≡ ans 0 0 ∷ ans 0 0 ∷ ans 0 0 ∷ ans 0 0o111 ∷ ans 0 0 ∷ ans 0 0o111 ∷ []
+  pub differs : seenBy wordsOnly (twoMaps 0) eight byteChanged ≡ seenAlong (twoMaps 0) eight byteChanged → ⊥
 
 pub words-only-differs : WordsOnlyDiffers
 unfolding opened
@@ -147,9 +148,9 @@ abbrev pub counterRead : List Call
 counterRead = pagingOn ++ (readPage 1 ∷ readPage 2 ∷ A 0 1 0 0o177574 0 ∷ [])
 
 pub record TwoDiffers : Type 0 where
-  pub rules : map toldBy (seenAlong memory fresh counterRead) ≡ ans 0 0 ∷ ans 0 0 ∷ ans 0 0o111 ∷ ans 0 0o111 ∷ ans 0 0o005400 ∷ []
-  pub version : map toldBy (seenBy two memory fresh counterRead) ≡ ans 0 0 ∷ ans 0 0 ∷ ans 0 0o111 ∷ ans 0 0o111 ∷ ans 0 0o004400 ∷ []
-  pub differs : seenBy two memory fresh counterRead ≡ seenAlong memory fresh counterRead → ⊥
+  pub rules : map toldBy (seenAlong memory eight counterRead) ≡ ans 0 0 ∷ ans 0 0 ∷ ans 0 0o111 ∷ ans 0 0o111 ∷ ans 0 0o005400 ∷ []
+  pub version : map toldBy (seenBy two memory eight counterRead) ≡ ans 0 0 ∷ ans 0 0 ∷ ans 0 0o111 ∷ ans 0 0o111 ∷ ans 0 0o004400 ∷ []
+  pub differs : seenBy two memory eight counterRead ≡ seenAlong memory eight counterRead → ⊥
 
 pub two-differs : TwoDiffers
 unfolding opened
@@ -166,10 +167,10 @@ abbrev pub broughtIn : List Call
 broughtIn = pagingOn ++ (readPage 1 ∷ A 2 4 0 0 0 ∷ A 2 4 0 0 0 ∷ movePage 1 ∷ readPage 1 ∷ [])
 
 pub record ThreeDiffers : Type 0 where
-  pub met : meets absent fresh noneInUse broughtIn ≡ true
-  pub rules : map toldBy (seenAlong absent fresh broughtIn) ≡ ans 0 0 ∷ ans 0 0 ∷ ans 5 0 ∷ ans 0 0 ∷ ans 0 0 ∷ ans 0 0 ∷ ans 0 0o222 ∷ []
-  pub version : map toldBy (seenBy three absent fresh broughtIn) ≡ ans 0 0 ∷ ans 0 0 ∷ ans 5 0 ∷ ans 0 0 ∷ ans 0 0 ∷ ans 0 0 ∷ ans 5 0 ∷ []
-  pub differs : seenBy three absent fresh broughtIn ≡ seenAlong absent fresh broughtIn → ⊥
+  pub met : meets absent eight noneInUse broughtIn ≡ true
+  pub rules : map toldBy (seenAlong absent eight broughtIn) ≡ ans 0 0 ∷ ans 0 0 ∷ ans 5 0 ∷ ans 0 0 ∷ ans 0 0 ∷ ans 0 0 ∷ ans 0 0o222 ∷ []
+  pub version : map toldBy (seenBy three absent eight broughtIn) ≡ ans 0 0 ∷ ans 0 0 ∷ ans 5 0 ∷ ans 0 0 ∷ ans 0 0 ∷ ans 0 0 ∷ ans 5 0 ∷ []
+  pub differs : seenBy three absent eight broughtIn ≡ seenAlong absent eight broughtIn → ⊥
 
 pub three-differs : ThreeDiffers
 unfolding opened

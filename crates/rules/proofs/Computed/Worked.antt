@@ -7,10 +7,11 @@ use Rattle.rules.specs.Types.{Access, Call, Physical}
 use Rattle.rules.specs.Memory.{Memory, storeWord}
 use Rattle.rules.specs.Status.{packed}
 use Rattle.rules.specs.Answers.{shown}
-use Rattle.rules.specs.Calls.{fresh}
+use Rattle.rules.specs.Unit.{there}
 use Rattle.rules.specs.Maps.{tagIn}
 use Rattle.rules.specs.Runs.{Seen, seenAlong, stationAfter}
 use Rattle.rules.proofs.Computed.Opened.{opened}
+use Rattle.rules.proofs.Computed.Units.{eight}
 use Rattle.rules.proofs.Computed.Starred.{numberAt}
 
 -- what the bench program prints of a call: the answer's number, its data and physical address, and KTCS after it
@@ -43,7 +44,7 @@ A op state width addr datum = Call.Access (record { op = op; state = state; widt
 -- 01's listing: 65,536 bytes of zeroed memory, two words stored, four calls
 pub listing :
     map rowOf
-    (seenAlong (storeWord (storeWord (replicate 65536 0) 0o001402 0o160002) 0o002004 0o000123) fresh
+    (seenAlong (storeWord (storeWord (replicate 65536 0) 0o001402 0o160002) 0o002004 0o000123) eight
     (A 2 2 0 0o177616 0o177001 ∷ A 2 2 0 0o177576 0o000002 ∷ A 0 2 0 0o001004 0 ∷ A 0 2 0 0o001005 0 ∷ []))
     ≡ at 0 0 0o777616 0o000000 ∷ at 0 0 0o777576 0o000002 ∷ at 0 0o000123 0o002004 0o000012 ∷ off 4 0 0o040012 ∷ []
 unfolding opened
@@ -67,7 +68,7 @@ startUser =
 
 -- KTCS is FCN 3 before the reads and UM with FCN 2, 22o, after them. The reads give KTPC and KTPS, with no physical address.
 pub a-user-starts :
-    map rowOf (seenAlong smallMemory fresh startUser)
+    map rowOf (seenAlong smallMemory eight startUser)
     ≡ at 0 0 0o777616 0 ∷ at 0 0 0o777614 0 ∷ at 0 0 0o777604 0 ∷ at 0 0 0o777606 0 ∷ at 0 0 0o777576 3 ∷ off 0 0o000100 3
     ∷ off 0 0o000340 0o000022 ∷ []
 unfolding opened
@@ -75,7 +76,7 @@ a-user-starts = refl
 
 -- what is seen of calls made after that start
 abbrev pub onward : List Call → List Row
-onward cs = map rowOf (seenAlong (stationAfter smallMemory fresh startUser .memory) (stationAfter smallMemory fresh startUser .unit) cs)
+onward cs = map rowOf (seenAlong (stationAfter smallMemory eight startUser .memory) (stationAfter smallMemory eight startUser .unit) cs)
 
 -- The user reads its page 1 in state SOURCE: answer 5. KTCS: RV 4000o, IU 40o (it takes UM, which clears), SS 4, FCN 2.
 -- Then the two SERVICE stores, status 17o and program counter 1002o with stack pointer 776o. Last, by the exec's page of registers and with the
@@ -101,7 +102,7 @@ a-window-faults-within = refl
 
 -- the tags of the cells after a run of calls on a fresh unit
 abbrev pub tagsAfter : List Call → List ℕ
-tagsAfter cs = map tagIn (stationAfter smallMemory fresh cs .unit .cells .list)
+tagsAfter cs = map tagIn (there (stationAfter smallMemory eight cs .unit .cells))
 
 -- KTEM 000001, FCN 2, and KTIC read through the exec's last page, 177o, which fills the first cell
 abbrev pub oneCell : List Call

@@ -44,12 +44,12 @@ module _ (m : Memory) (u : Unit) where
     begun-so :
         Begun m u q
         → goesOn (u .cells)
-        (pick (unpaged (u .core .ktcs .fcn) (q .state)) (unpagedFrom m (u .core) (u .maps) q) (pagedFrom m (job u q)))
+        (pick (unpaged (u .core .ktcs .fcn) (q .state)) (unpagedFrom m (u .cells .size) (u .core) (u .maps) q) (pagedFrom m (job u q)))
     unfolding called accessed afterWait pick
     begun-so s = rw (s .shaped, s .due)
 
     unpaged-so :
-        Unpaged m u q → goesOn (u .cells) (unpagedTarget m (job u q) (unpagedAt (q .addr)) (placeOf (length m) (unpagedAt (q .addr))))
+        Unpaged m u q → goesOn (u .cells) (unpagedTarget m (job u q) (unpagedAt (q .addr)) (placeOf (u .cells .size) (length m) (unpagedAt (q .addr))))
     unfolding unpagedFrom pick
     unpaged-so s = begun-so (s .steps) ∙ rw (s .mode, s .even)
 
@@ -71,7 +71,7 @@ module _ (m : Memory) (u : Unit) where
     granted-so :
         {page : ℕ} → Granted m u q page
         → goesOn (outer m u q .cells)
-        (outerTarget m (job u q) (outerAt q page) (outer m u q .entry) (placeOf (length m) (outerAt q page)))
+        (outerTarget m (job u q) (outerAt q page) (outer m u q .entry) (placeOf (u .cells .size) (length m) (outerAt q page)))
     unfolding outerRuled
     granted-so s = asked-so (s .steps) ∙ rw (keys-judged (s .keys))
 
@@ -92,7 +92,7 @@ module _ (m : Memory) (u : Unit) where
 
     inner-granted-so :
         {page : ℕ} → InnerGranted m u q page
-        → goesOn (inner m u q .cells) (innerTarget m (job u q) (innerAt u q page) (placeOf (length m) (innerAt u q page)))
+        → goesOn (inner m u q .cells) (innerTarget m (job u q) (innerAt u q page) (placeOf (u .cells .size) (length m) (innerAt u q page)))
     unfolding innerRuled
     inner-granted-so s = inner-asked-so (s .steps) ∙ rw (keys-judged (s .keys))
 

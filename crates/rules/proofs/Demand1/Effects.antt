@@ -63,7 +63,7 @@ module _ (u : Unit) (q : Access) (at : ℕ) where
 
 module _ {m : Memory} {u : Unit} where
   transfer-does :
-      {q : Access} {k : Cells} {at : ℕ} {t : Target} {d : Ran} → wellShaped (length m) q ≡ true → placeOf (length m) at ≡ Place.There t
+      {q : Access} {k : Cells} {at : ℕ} {t : Target} {d : Ran} → wellShaped (length m) q ≡ true → placeOf (u .cells .size) (length m) at ≡ Place.There t
       → Transfer m (job u q) k at t d
       → Does m u (Call.Access q) (d .outcome .answer) (d .outcome .effect)
   unfolding outcome storedIn storedAt

@@ -107,7 +107,7 @@ module _ {m : Memory} {u : Unit} {q : Access} where
   granted-first : {page : ℕ} → Granted m u q page → (a : Answer) → firstOf (outerTests m u q) a ≡ firstOf (targetTests m u q) a
   granted-first s a = asked-first (s .steps) a ∙ keys-first (s .keys) (firstOf (targetTests m u q) a)
 
-  outer-place : {page : ℕ} → Granted m u q page → outerPlace m u q ≡ placeOf (length m) (outerAt q page)
+  outer-place : {page : ℕ} → Granted m u q page → outerPlace m u q ≡ placeOf (u .cells .size) (length m) (outerAt q page)
   outer-place s = rw (keys-page (s .keys))
 
   outer-fault : {f : Fault} {tag : ℕ} {k : Cells} → AtFault m u q f false tag k → (a : Answer) → firstOf (outerTests m u q) a ≡ Answer.Fault f
@@ -134,13 +134,13 @@ module _ {m : Memory} {u : Unit} {q : Access} where
       InnerAsked m u q → (a : Answer)
       → firstOf (innerTests m u q) a
       ≡ firstOf (entryTests (q .op) false (inner m u q .entry))
-      (firstOf (test (noTarget true (placeOf (length m) (innerPhysical m u q))) (Answer.Fault Fault.NoTarget) ∷ []) a)
+      (firstOf (test (noTarget true (placeOf (u .cells .size) (length m) (innerPhysical m u q))) (Answer.Fault Fault.NoTarget) ∷ []) a)
   unfolding pick
   inner-asked-first s a = rw (s .even) (first-append (entryTests (q .op) false (inner m u q .entry)) _ a)
 
   inner-granted-first :
       {page : ℕ} → InnerGranted m u q page → (a : Answer)
-      → firstOf (innerTests m u q) a ≡ pick (noTarget true (placeOf (length m) (innerAt u q page))) (Answer.Fault Fault.NoTarget) a
+      → firstOf (innerTests m u q) a ≡ pick (noTarget true (placeOf (u .cells .size) (length m) (innerAt u q page))) (Answer.Fault Fault.NoTarget) a
   inner-granted-first s a = inner-asked-first (s .steps) a ∙ keys-first (s .keys) _ ∙ rw (keys-page (s .keys))
 
   inner-fault : {f : Fault} {tag : ℕ} {k : Cells} → AtFault m u q f true tag k → (a : Answer) → firstOf (innerTests m u q) a ≡ Answer.Fault f
@@ -185,7 +185,7 @@ module _ {m : Memory} {u : Unit} {q : Access} where
   begun-first :
       Begun m u q → (a : Answer)
       → firstOf (testsOf m u (Call.Access q)) a
-      ≡ firstOf (pick (unpaged (u .core .ktcs .fcn) (q .state)) (unpagedTests m q) (pagedTests m u q)) a
+      ≡ firstOf (pick (unpaged (u .core .ktcs .fcn) (q .state)) (unpagedTests m u q) (pagedTests m u q)) a
   unfolding pick
   begun-first s a = rw (s .shaped, s .due)
 

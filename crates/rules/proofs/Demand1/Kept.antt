@@ -12,7 +12,7 @@ use borrow.Author.Tests.{eqb-true, ne-eqb}
 use Rattle.rules.specs.Types.{Ktcs, Fetch, Core, Maps, Cell, Cells, Access, Kind, Found, Walk, Entry, Fault, Answer}
 use Rattle.rules.specs.Choice.{pick}
 use Rattle.rules.specs.Memory.{Memory}
-use Rattle.rules.specs.Unit.{emptyCell, withKtcs, withKept, withFetch}
+use Rattle.rules.specs.Unit.{there, emptyCell, cellAt, withKtcs, withKept, withFetch}
 use Rattle.rules.specs.Status.{withModes, withStates, withFlags, flagsClear}
 use Rattle.rules.specs.Registers.{ktic, ktad, ktdt}
 use Rattle.rules.specs.Maps.{unpaged, execZero, tagOf, cellOf, walkOf, entryOf, filled, filledBy, missed, soughtIn, looked, holds, cellForgotten, forgotten}
@@ -20,6 +20,7 @@ use Rattle.rules.specs.Fetched.{isFetch, isDato, kindOf, oneMore, counte
 use Rattle.rules.specs.Sequences.{serviceAwaited, flagged, startEnded, addressKept, linesKept, faultData, violated, timedOut}
 use Rattle.rules.specs.Answers.{shownAs, faultShown, shown}
 use Rattle.rules.proofs.Laws.Choices.{both-true, picked}
+use Rattle.rules.proofs.Laws.CellsLaws.{there-filled, there-forgotten}
 use Rattle.rules.proofs.Promises.{StatesOnly, Step4Status, Step4Registers, Step4Counts, Step4Keeps, Step4Leaves, Step6Keeps, Step6Leaves, ViolationKeeps, ForgottenKeeps}
 
 -- Step 4 -----------------------------------------------------------------------------------------------------------------
@@ -203,15 +204,16 @@ step4-leaves c q =
 
 module _ (user : Bool) (p : ℕ) (k : Cells) where
   cells-same : (e : Entry) → Step6Keeps user p k (record { entry = e; cells = k })
-  cells-same e = record { count = refl; others = λ i n. refl; hit = λ h. refl; timed-out = λ h. refl; exec-zero = λ h. refl }
+  cells-same e = record { size = refl; count = refl; others = λ i n. refl; hit = λ h. refl; timed-out = λ h. refl; exec-zero = λ h. refl }
 
   module _ (walks : execZero user p ≡ false) (missing : cellOf k (tagOf user p) ≡ Found.Missing) where
     filled-keeps : (tag w : ℕ) → Step6Keeps user p k (record { entry = Entry.Mapped w; cells = filled k tag w })
     unfolding filled
     filled-keeps tag w =
         record {
-          count = rw length-set;
-          others = λ i n. rw getD-set-other;
+          size = refl;
+          count = rw (there-filled k tag w, length-set);
+          others = λ i n. rw (there-filled k tag w, getD-set-other);
           hit = λ h. cc;
           timed-out = λ h. cc;
           exec-zero = λ h. absurd (true≢false (cc));
@@ -353,11 +355,12 @@ unfolding forgotten
 forgotten-keeps k tag =
     record {
       counter = refl;
-      count = length-map (k .list) (cellForgotten tag);
+      size = refl;
+      count = ap length (there-forgotten k tag) ∙ length-map (there k) (cellForgotten tag);
       none = λ e. rw (none-listed tag (k .list) e);
       others =
           λ i n.
-          ap (getD (map (cellForgotten tag) (k .list)) i) (sym (empty-forgotten tag))
-          ∙ List·getD-map (cellForgotten tag) (k .list) i emptyCell
-          ∙ other-forgotten tag (getD (k .list) i emptyCell) n;
+          rw (there-forgotten k tag)
+          (ap (getD (map (cellForgotten tag) (there k)) i) (sym (empty-forgotten tag))
+          ∙ List·getD-map (cellForgotten tag) (there k) i emptyCell ∙ other-forgotten tag (cellAt k i) n);
     }

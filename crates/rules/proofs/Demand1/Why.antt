@@ -59,7 +59,7 @@ module _ (m : Memory) (u : Unit) where
         (λ e. unpaged-transfer s e (transferred-transfer (job u q) (u .cells) (unpagedAt (q .addr)) t))
 
     unpagedTarget-ends :
-        (pl : Place) → placeOf (length m) (unpagedAt (q .addr)) ≡ pl → Unpaged m u q
+        (pl : Place) → placeOf (u .cells .size) (length m) (unpagedAt (q .addr)) ≡ pl → Unpaged m u q
         → ends (u .cells) (unpagedTarget m (job u q) (unpagedAt (q .addr)) pl)
     unfolding unpagedTarget unpagedTimeOut run outcome
     unpagedTarget-ends (Place.There t) e s = unpagedReached-ends (record { steps = s; place = e })
@@ -67,14 +67,14 @@ module _ (m : Memory) (u : Unit) where
     unpagedTarget-ends Place.Nowhere e s = unpaged-nowhere s e
 
     unpagedFrom-ends :
-        Begun m u q → unpaged (u .core .ktcs .fcn) (q .state) ≡ true → ends (u .cells) (unpagedFrom m (u .core) (u .maps) q)
+        Begun m u q → unpaged (u .core .ktcs .fcn) (q .state) ≡ true → ends (u .cells) (unpagedFrom m (u .cells .size) (u .core) (u .maps) q)
     unfolding unpagedFrom refused run outcome
     unpagedFrom-ends s t =
         picked (ends (u .cells)) (oddWord (q .width) (q .addr)) _ _ (unpaged-odd s t)
-        (λ e. unpagedTarget-ends (placeOf (length m) (unpagedAt (q .addr))) refl (record { steps = s; mode = t; even = e }))
+        (λ e. unpagedTarget-ends (placeOf (u .cells .size) (length m) (unpagedAt (q .addr))) refl (record { steps = s; mode = t; even = e }))
 
     innerTarget-ends :
-        {page : ℕ} (pl : Place) → placeOf (length m) (innerAt u q page) ≡ pl → InnerGranted m u q page
+        {page : ℕ} (pl : Place) → placeOf (u .cells .size) (length m) (innerAt u q page) ≡ pl → InnerGranted m u q page
         → ends (inner m u q .cells) (innerTarget m (job u q) (innerAt u q page) pl)
     unfolding innerTarget innerFault faulted run outcome
     innerTarget-ends {page} (Place.There t) e s =
@@ -86,7 +86,7 @@ module _ (m : Memory) (u : Unit) where
         (g : Ruling) → Keys (q .op) false (inner m u q .entry) g → InnerAsked m u q → ends (inner m u q .cells) (innerRuled m (job u q) g)
     unfolding innerRuled innerFault faulted run outcome
     innerRuled-ends (Ruling.Refused f) h s = violation (inner-keys-refuse s h)
-    innerRuled-ends (Ruling.Granted page) h s = innerTarget-ends (placeOf (length m) (innerAt u q page)) refl (record { steps = s; keys = h })
+    innerRuled-ends (Ruling.Granted page) h s = innerTarget-ends (placeOf (u .cells .size) (length m) (innerAt u q page)) refl (record { steps = s; keys = h })
 
     windowed-ends : Windowed m u q → ends (outer m u q .cells) (windowed m (job u q))
     unfolding windowed innerFault faulted run outcome
@@ -112,7 +112,7 @@ module _ (m : Memory) (u : Unit) where
         (λ e. transfer s e (transferred-transfer (job u q) (outer m u q .cells) (outerAt q page) t))
 
     outerTarget-ends :
-        {page : ℕ} (pl : Place) → placeOf (length m) (outerAt q page) ≡ pl → Granted m u q page
+        {page : ℕ} (pl : Place) → placeOf (u .cells .size) (length m) (outerAt q page) ≡ pl → Granted m u q page
         → ends (outer m u q .cells) (outerTarget m (job u q) (outerAt q page) (outer m u q .entry) pl)
     unfolding outerTarget outerFault faulted run outcome
     outerTarget-ends (Place.There t) e s = pagedReached-ends (record { steps = s; place = e })
@@ -126,7 +126,7 @@ module _ (m : Memory) (u : Unit) where
         → ends (outer m u q .cells) (outerRuled m (job u q) (outer m u q .entry) g)
     unfolding outerRuled outerFault faulted run outcome
     outerRuled-ends (Ruling.Refused f) h s = violation (keys-refuse s h)
-    outerRuled-ends (Ruling.Granted page) h s = outerTarget-ends (placeOf (length m) (outerAt q page)) refl (record { steps = s; keys = h })
+    outerRuled-ends (Ruling.Granted page) h s = outerTarget-ends (placeOf (u .cells .size) (length m) (outerAt q page)) refl (record { steps = s; keys = h })
 
     pagedFrom-ends : Paged m u q → ends (u .cells) (pagedFrom m (job u q))
     unfolding pagedFrom outerFault faulted run outcome
@@ -135,7 +135,7 @@ module _ (m : Memory) (u : Unit) where
         (λ e. outerRuled-ends _ (judged-keys (q .op) (watches (job u q .core .fetch) q) (outer m u q .entry)) (record { steps = s; even = e }))
 
     afterWait-ends :
-        (d : Due) → dueOf (u .core) q ≡ d → wellShaped (length m) q ≡ true → ends (u .cells) (afterWait m (u .core) (u .maps) q d)
+        (d : Due) → dueOf (u .core) q ≡ d → wellShaped (length m) q ≡ true → ends (u .cells) (afterWait m (u .cells .size) (u .core) (u .maps) q d)
     unfolding afterWait refused sequenced run outcome
     afterWait-ends Due.Steps e s =
         picked (ends (u .cells)) (unpaged (u .core .ktcs .fcn) (q .state)) _ _ (unpagedFrom-ends (record { shaped = s; due = e }))
@@ -146,7 +146,7 @@ module _ (m : Memory) (u : Unit) where
     afterWait-ends Due.FirstRead e s = first-read s e
     afterWait-ends Due.SecondRead e s = second-read s e
 
-    accessed-ends : ends (u .cells) (accessed m (u .core) (u .maps) q)
+    accessed-ends : ends (u .cells) (accessed m (u .cells .size) (u .core) (u .maps) q)
     unfolding accessed refused run outcome
     accessed-ends = picked (ends (u .cells)) (wellShaped (length m) q) _ _ (afterWait-ends (dueOf (u .core) q) refl) misshapen
 

@@ -6,7 +6,7 @@ use native.Mathlib.Omega.{arith}
 use lib.Dec.{eqb, ltb}
 use lib.ListN.{length}
 use borrow.Author.Tests.{eqb-true, eqb-false, eq-eqb, ltb-true, ltb-false, not-true}
-use Rattle.rules.specs.Types.{Wait, Core, Maps, Access, Call, Operating, Associative, Register, Target, Place, Part, Entry, Due, Fault, Ruling, Answer, Effect, Outcome, Job}
+use Rattle.rules.specs.Types.{Wait, Core, Maps, Size, Access, Call, Operating, Associative, Register, Target, Place, Part, Entry, Due, Fault, Ruling, Answer, Effect, Outcome, Job}
 use Rattle.rules.specs.Memory.{Memory, goodLength}
 use Rattle.rules.specs.Registers.{partOf}
 use Rattle.rules.specs.Maps.{unpaged, unpagedAt, physicalAt, low9}
@@ -227,43 +227,43 @@ module _ (c : Core) where
   unfolding sequenced
   sequenced-ends w c₁ h = keeping-ends c _ c₁ h
 
-  module _ (m : Memory) (r : Maps) (q : Access) (shaped : Shaped q) where
-    steps-end : c .wait ≡ Wait.Nothing → Always (Ending c) (afterWait m c r q Due.Steps)
+  module _ (m : Memory) (s : Size) (r : Maps) (q : Access) (shaped : Shaped q) where
+    steps-end : c .wait ≡ Wait.Nothing → Always (Ending c) (afterWait m s c r q Due.Steps)
     unfolding afterWait unpagedFrom
     steps-end w =
         picked (Always (Ending c)) (unpaged (c .ktcs .fcn) (q .state)) _ _
         (λ t. picked (Always (Ending c)) (oddWord (q .width) (q .addr)) _ _ (λ t₁. refused-ends _)
-        (λ t₁. unpagedTarget-ends c m (record { q = q; core = noted c q; maps = r }) shaped (CoreLaws.noted-calm c q w) _ _
+        (λ t₁. unpagedTarget-ends c m (record { q = q; core = noted c q; maps = r; size = s }) shaped (CoreLaws.noted-calm c q w) _ _
         (λ o. unpaged-aligned (q .addr) (addr-aligned q (q .addr) shaped t₁ o))))
-        (λ t. pagedFrom-ends c m (record { q = q; core = noted c q; maps = r }) shaped (CoreLaws.noted-calm c q w))
+        (λ t. pagedFrom-ends c m (record { q = q; core = noted c q; maps = r; size = s }) shaped (CoreLaws.noted-calm c q w))
 
-    afterWait-ends : (w : Wait) → c .wait ≡ w → Always (Ending c) (afterWait m c r q (dueWhen w (c .ktcs .fcn) q))
+    afterWait-ends : (w : Wait) → c .wait ≡ w → Always (Ending c) (afterWait m s c r q (dueWhen w (c .ktcs .fcn) q))
     unfolding dueWhen afterWait
     afterWait-ends Wait.Nothing w =
-        picked (λ (d : Due). Always (Ending c) (afterWait m c r q d)) (eqb (c .ktcs .fcn) 3 && not (isFetch q)) _ _
-        (λ t. picked (λ (d : Due). Always (Ending c) (afterWait m c r q d)) (startRead q) _ _
+        picked (λ (d : Due). Always (Ending c) (afterWait m s c r q d)) (eqb (c .ktcs .fcn) 3 && not (isFetch q)) _ _
+        (λ t. picked (λ (d : Due). Always (Ending c) (afterWait m s c r q d)) (startRead q) _ _
         (λ t₁. sequenced-ends _ _ (CoreLaws.firstReadDone-fits c (eqb-true (c .ktcs .fcn) 3 (both-true (eqb (c .ktcs .fcn) 3) _ t .0))))
         (λ t₁. refused-ends _))
         (λ t. steps-end w)
     afterWait-ends Wait.StatusDue w =
-        picked (λ (d : Due). Always (Ending c) (afterWait m c r q d)) (serviceDato q) _ _
+        picked (λ (d : Due). Always (Ending c) (afterWait m s c r q d)) (serviceDato q) _ _
         (λ t. sequenced-ends _ _ (CoreLaws.statusStored-fits c (q .datum) w)) (λ t. refused-ends _)
     afterWait-ends Wait.ProgramCounterDue w =
-        picked (λ (d : Due). Always (Ending c) (afterWait m c r q d)) (serviceDato q) _ _
+        picked (λ (d : Due). Always (Ending c) (afterWait m s c r q d)) (serviceDato q) _ _
         (λ t. sequenced-ends _ _ (CoreLaws.programCounterStored-fits c (q .addr) (q .datum))) (λ t. refused-ends _)
     afterWait-ends Wait.SecondReadDue w =
-        picked (λ (d : Due). Always (Ending c) (afterWait m c r q d)) (startRead q) _ _
+        picked (λ (d : Due). Always (Ending c) (afterWait m s c r q d)) (startRead q) _ _
         (λ t. sequenced-ends _ _ (λ h. CoreLaws.userStarted-fits c)) (λ t. refused-ends _)
 
-  pub call-ends : (m : Memory) (r : Maps) (a : Call) → Always (Ending c) (called m c r a)
+  pub call-ends : (m : Memory) (s : Size) (r : Maps) (a : Call) → Always (Ending c) (called m s c r a)
   unfolding called accessed dueOf interruptOf trapOf initOf
-  call-ends m r (Call.Access q) =
+  call-ends m s r (Call.Access q) =
       picked (Always (Ending c)) (wellShaped (length m) q) _ _
-      (λ t. afterWait-ends m r q (wellShaped-shaped (length m) q t) (c .wait) refl) (λ t. refused-ends _)
-  call-ends m r Call.Interrupt =
+      (λ t. afterWait-ends m s r q (wellShaped-shaped (length m) q t) (c .wait) refl) (λ t. refused-ends _)
+  call-ends m s r Call.Interrupt =
       picked (Always (Ending c)) (idle (c .wait) (c .ktcs .fcn)) _ _ (λ t. sequenced-ends _ _ (CoreLaws.interrupted-fits c t)) (λ t. refused-ends _)
-  call-ends m r (Call.Trap v) =
+  call-ends m s r (Call.Trap v) =
       picked (Always (Ending c)) (vectorListed v) _ _
       (λ t. picked (Always (Ending c)) (idle (c .wait) (c .ktcs .fcn)) _ _ (λ t₁. sequenced-ends _ _ (CoreLaws.trapped-fits c v t₁)) (λ t₁. refused-ends _))
       (λ t. refused-ends _)
-  call-ends m r Call.Init = reloading-ends c _ _ (λ h. CoreLaws.initCore-fits c) r
+  call-ends m s r Call.Init = reloading-ends c _ _ (λ h. CoreLaws.initCore-fits c) r

@@ -106,13 +106,13 @@ module _ (m : Memory) (u : Unit) (q : Access) where
       (λ e. rw (innerRuled-silent, append-nil) (two-pages (record { steps = s; even = e })))
 
   -- a target that is not the window goes on to no other page
-  elsewhere : {page : ℕ} {pl : Place} → placeOf (length m) (outerAt q page) ≡ pl → Granted m u q page → InnerAsked m u q → Place.Window ≡ pl
+  elsewhere : {page : ℕ} {pl : Place} → placeOf (u .cells .size) (length m) (outerAt q page) ≡ pl → Granted m u q page → InnerAsked m u q → Place.Window ≡ pl
   elsewhere {page} e s i =
       let x : i .steps .page ≡ page = cc (same-ruling (i .steps .steps .keys) (s .keys)) in
-      sym (i .steps .place) ∙ ap (λ (b : ℕ). placeOf (length m) (outerAt q b)) x ∙ e
+      sym (i .steps .place) ∙ ap (λ (b : ℕ). placeOf (u .cells .size) (length m) (outerAt q b)) x ∙ e
 
   outerTarget-goes :
-      {page : ℕ} (pl : Place) → placeOf (length m) (outerAt q page) ≡ pl → Granted m u q page
+      {page : ℕ} (pl : Place) → placeOf (u .cells .size) (length m) (outerAt q page) ≡ pl → Granted m u q page
       → onward (outerTarget m (job u q) (outerAt q page) (outer m u q .entry) pl)
   unfolding outerTarget outerFault faulted visitsOf
   outerTarget-goes {page} (Place.There t) e s =
@@ -129,7 +129,7 @@ module _ (m : Memory) (u : Unit) (q : Access) where
       → onward (outerRuled m (job u q) (outer m u q .entry) g)
   unfolding outerRuled outerFault faulted visitsOf
   outerRuled-goes (Ruling.Refused f) h s = ends-here s (λ i. let y : _≡_ {A = ℕ} 0 1 = cc (same-ruling (i .steps .steps .keys) h) in omega arith) refl
-  outerRuled-goes (Ruling.Granted page) h s = outerTarget-goes (placeOf (length m) (outerAt q page)) refl (record { steps = s; keys = h })
+  outerRuled-goes (Ruling.Granted page) h s = outerTarget-goes (placeOf (u .cells .size) (length m) (outerAt q page)) refl (record { steps = s; keys = h })
 
   pagedFrom-goes : Paged m u q → GoesTo m u q (visitsOf m (u .maps) (pagedFrom m (job u q)) (u .cells))
   unfolding pagedFrom outerFault faulted visitsOf
@@ -143,12 +143,12 @@ module _ (m : Memory) (u : Unit) (q : Access) where
   goes-nowhere n e = rw e (no-page n)
 
   unpagedFrom-goes :
-      unpaged (u .core .ktcs .fcn) (q .state) ≡ true → GoesTo m u q (visitsOf m (u .maps) (unpagedFrom m (u .core) (u .maps) q) (u .cells))
+      unpaged (u .core .ktcs .fcn) (q .state) ≡ true → GoesTo m u q (visitsOf m (u .maps) (unpagedFrom m (u .cells .size) (u .core) (u .maps) q) (u .cells))
   unfolding unpagedFrom refused visitsOf
   unpagedFrom-goes t =
       picked (λ p. GoesTo m u q (visitsOf m (u .maps) p (u .cells))) (oddWord (q .width) (q .addr)) _ _
       (λ e. no-page (λ a. true-is-not-false (sym t ∙ a .steps .mode)))
-      (λ e. goes-nowhere (λ a. true-is-not-false (sym t ∙ a .steps .mode)) (unpagedTarget-silent m u (job u q) (unpagedAt (q .addr)) (placeOf (length m) (unpagedAt (q .addr))) (u .cells)))
+      (λ e. goes-nowhere (λ a. true-is-not-false (sym t ∙ a .steps .mode)) (unpagedTarget-silent m u (job u q) (unpagedAt (q .addr)) (placeOf (u .cells .size) (length m) (unpagedAt (q .addr))) (u .cells)))
 
   -- where step 2 says otherwise than to go on, no page is asked for
   not-begun : {d : Due} → dueOf (u .core) q ≡ d → (Due.Steps ≡ d → ⊥) → Asked m u q → ⊥
@@ -156,7 +156,7 @@ module _ (m : Memory) (u : Unit) (q : Access) where
 
   afterWait-goes :
       (d : Due) → dueOf (u .core) q ≡ d → wellShaped (length m) q ≡ true
-      → GoesTo m u q (visitsOf m (u .maps) (afterWait m (u .core) (u .maps) q d) (u .cells))
+      → GoesTo m u q (visitsOf m (u .maps) (afterWait m (u .cells .size) (u .core) (u .maps) q d) (u .cells))
   unfolding afterWait refused sequenced visitsOf
   afterWait-goes Due.Steps e s =
       picked (λ p. GoesTo m u q (visitsOf m (u .maps) p (u .cells))) (unpaged (u .core .ktcs .fcn) (q .state)) _ _ unpagedFrom-goes
@@ -167,7 +167,7 @@ module _ (m : Memory) (u : Unit) (q : Access) where
   afterWait-goes Due.FirstRead e s = no-page (not-begun e (λ z. let y : _≡_ {A = ℕ} 0 1 = cc in omega arith))
   afterWait-goes Due.SecondRead e s = no-page (not-begun e (λ z. let y : _≡_ {A = ℕ} 0 1 = cc in omega arith))
 
-  accessed-goes : GoesTo m u q (visitsOf m (u .maps) (accessed m (u .core) (u .maps) q) (u .cells))
+  accessed-goes : GoesTo m u q (visitsOf m (u .maps) (accessed m (u .cells .size) (u .core) (u .maps) q) (u .cells))
   unfolding accessed refused visitsOf
   accessed-goes =
       picked (λ p. GoesTo m u q (visitsOf m (u .maps) p (u .cells))) (wellShaped (length m) q) _ _ (afterWait-goes (dueOf (u .core) q) refl)

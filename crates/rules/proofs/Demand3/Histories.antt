@@ -56,7 +56,7 @@ module _ {m : Memory} {u : Unit} where
   -- a store that is done does what its target asks for
   done-stores :
       {q : Access} {at : ℕ} {t : Target} {a : Answer} {e : Effect} → Does m u (Call.Access q) a e → a ≡ Answer.Done 0 at → 1 < q .op
-      → placeOf (length m) at ≡ Place.There t → Stores u q at t e
+      → placeOf (u .cells .size) (length m) at ≡ Place.There t → Stores u q at t e
   unfolding shown shownAs
   done-stores (after-refusal n l) h o p = absurd (n (ap (λ (x : Answer). shown x .number) h))
   done-stores (after-unpaged-time-out t) h o p = absurd (let z : _≡_ {A = ℕ} 0 1 = cc in omega arith)
@@ -65,7 +65,7 @@ module _ {m : Memory} {u : Unit} where
   done-stores (after-read l) h o p = absurd (omega arith)
   done-stores {q} {at} {t} (after-store {at = at₁} {t = t₁} {e = e} o₁ p₁ s) h o p =
       let x : at₁ ≡ at = cc in
-      let z : Place.There t₁ ≡ Place.There t = sym p₁ ∙ ap (placeOf (length m)) x ∙ p in
+      let z : Place.There t₁ ≡ Place.There t = sym p₁ ∙ ap (placeOf (u .cells .size) (length m)) x ∙ p in
       let y : t₁ ≡ t = cc in
       subst (λ (b : ℕ). Stores u q b t e) x (subst (λ (l : Target). Stores u q at₁ l e) y s)
 

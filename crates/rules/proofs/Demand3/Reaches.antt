@@ -31,7 +31,7 @@ module _ (m : Memory) (u : Unit) (op : ℕ) where
   abbrev Reached : Prog → Cells → Type 0
   Reached p k =
       (peeks m (u .maps) p k || storesPad (run m (u .maps) p k .outcome .effect))
-      ≡ inCells op (placeAt m (shown (run m (u .maps) p k .outcome .answer) .physical))
+      ≡ inCells op (placeAt m (u .cells .size) (shown (run m (u .maps) p k .outcome .answer) .physical))
 
   -- a program that reaches nothing more, and answers with this physical address
   record Answers (at : ℕ) (p : Prog) (k : Cells) : Type 0 where
@@ -41,10 +41,10 @@ module _ (m : Memory) (u : Unit) (op : ℕ) where
 
   module _ (j : Job) (at : ℕ) (reads : ltb op 2 ≡ true) (f : ℕ → Prog) (h : (w : ℕ) (k : Cells) → Answers at (f w) k) where
     -- a read of what the cells take no part in
-    unshown : (w : ℕ) (k : Cells) → inCells op (placeOf (length m) at) ≡ false → Reached (f w) k
+    unshown : (w : ℕ) (k : Cells) → inCells op (placeOf (u .cells .size) (length m) at) ≡ false → Reached (f w) k
     unshown w k e = rw (h w k .peeks-none, h w k .stores-none, h w k .physical) (sym e)
 
-    readAt-reached : (t : Target) (k : Cells) → placeOf (length m) at ≡ Place.There t → Reached (readAt m j at t f) k
+    readAt-reached : (t : Target) (k : Cells) → placeOf (u .cells .size) (length m) at ≡ Place.There t → Reached (readAt m j at t f) k
     unfolding sourceIn sourceAt readFrom readAt peeks run
     readAt-reached Target.Memory k e = unshown _ k (rw e)
     readAt-reached (Target.In (Register.Operating g)) k e = unshown _ k (rw e)
@@ -83,15 +83,15 @@ module _ (m : Memory) (u : Unit) (q : Access) (shaped : wellShaped (length m) q 
 
   module _ (at : ℕ) (k : Cells) where
     stored-reached :
-        (t : Target) → placeOf (length m) at ≡ Place.There t → ltb (q .op) 2 ≡ false
+        (t : Target) → placeOf (u .cells .size) (length m) at ≡ Place.There t → ltb (q .op) 2 ≡ false
         → storesPad (storedAt (job u q) (partOf (q .op) at) at t .effect)
-        ≡ inCells (q .op) (placeAt m (shown (storedAt (job u q) (partOf (q .op) at) at t .answer) .physical))
+        ≡ inCells (q .op) (placeAt m (u .cells .size) (shown (storedAt (job u q) (partOf (q .op) at) at t .answer) .physical))
     unfolding storedIn storedAt outcome shown shownAs
     stored-reached Target.Memory place n = rw place (memory-store (partOf (q .op) at) at (q .datum))
     stored-reached (Target.In (Register.Operating g)) place n = rw place (operating-store g (partOf (q .op) at) (q .datum))
     stored-reached (Target.In (Register.Associative g)) place n = rw place (associative-store g (partOf (q .op) at) (q .datum) n)
 
-    module _ (t : Target) (place : placeOf (length m) at ≡ Place.There t) where
+    module _ (t : Target) (place : placeOf (u .cells .size) (length m) at ≡ Place.There t) where
       transferred-reached : reached k (transferred m (job u q) at t)
       unfolding transferred peeks run outcome storesPad shown shownAs
       transferred-reached =
@@ -120,13 +120,13 @@ module _ (m : Memory) (u : Unit) (q : Access) (shaped : wellShaped (length m) q 
           (λ f. readAt-reached m u (q .op) (job u q) at (fetch-is-read f) _ (wordJudged-answers e) t k place)
           (λ f. transferred-reached)
 
-  unpagedTarget-reached : (at : ℕ) (pl : Place) (k : Cells) → placeOf (length m) at ≡ pl → reached k (unpagedTarget m (job u q) at pl)
+  unpagedTarget-reached : (at : ℕ) (pl : Place) (k : Cells) → placeOf (u .cells .size) (length m) at ≡ pl → reached k (unpagedTarget m (job u q) at pl)
   unfolding unpagedTarget unpagedTimeOut peeks run outcome storesPad shown faultShown shownAs
   unpagedTarget-reached at (Place.There t) k e = unpagedReached-reached at k t e
   unpagedTarget-reached at Place.Window k e = refl
   unpagedTarget-reached at Place.Nowhere k e = refl
 
-  innerTarget-reached : (at : ℕ) (pl : Place) (k : Cells) → placeOf (length m) at ≡ pl → reached k (innerTarget m (job u q) at pl)
+  innerTarget-reached : (at : ℕ) (pl : Place) (k : Cells) → placeOf (u .cells .size) (length m) at ≡ pl → reached k (innerTarget m (job u q) at pl)
   unfolding innerTarget innerFault faulted peeks run outcome storesPad shown faultShown shownAs
   innerTarget-reached at (Place.There t) k e = transferred-reached at k t e
   innerTarget-reached at Place.Window k e = refl
@@ -147,7 +147,7 @@ module _ (m : Memory) (u : Unit) (q : Access) (shaped : wellShaped (length m) q 
       (λ t. innerRuled-reached _ (judged-keys (q .op) false _))
 
   outerTarget-reached :
-      (at : ℕ) (e : Entry) (pl : Place) (k : Cells) → placeOf (length m) at ≡ pl → reached k (outerTarget m (job u q) at e pl)
+      (at : ℕ) (e : Entry) (pl : Place) (k : Cells) → placeOf (u .cells .size) (length m) at ≡ pl → reached k (outerTarget m (job u q) at e pl)
   unfolding outerTarget outerFault faulted peeks run outcome storesPad shown faultShown shownAs
   outerTarget-reached at e (Place.There t) k p = pagedReached-reached at k t p e
   outerTarget-reached at e Place.Window k p = picked (reached k) (isFetch q) _ _ (λ t. refl) (λ t. windowed-reached k)
@@ -168,12 +168,12 @@ module _ (m : Memory) (u : Unit) (q : Access) (shaped : wellShaped (length m) q 
       picked (reached k) (oddWord (q .width) (q .addr)) _ _ (λ t. refl)
       (λ t. outerRuled-reached _ (judged-keys (q .op) (watches (job u q .core .fetch) q) _))
 
-  unpagedFrom-reached : (k : Cells) → reached k (unpagedFrom m (u .core) (u .maps) q)
+  unpagedFrom-reached : (k : Cells) → reached k (unpagedFrom m (u .cells .size) (u .core) (u .maps) q)
   unfolding unpagedFrom refused peeks run outcome storesPad shown shownAs
   unpagedFrom-reached k =
       picked (reached k) (oddWord (q .width) (q .addr)) _ _ (λ t. refl) (λ t. unpagedTarget-reached (unpagedAt (q .addr)) _ k refl)
 
-  afterWait-reached : (d : Due) (k : Cells) → reached k (afterWait m (u .core) (u .maps) q d)
+  afterWait-reached : (d : Due) (k : Cells) → reached k (afterWait m (u .cells .size) (u .core) (u .maps) q d)
   unfolding afterWait refused sequenced peeks run outcome storesPad shown shownAs
   afterWait-reached Due.Steps k =
       picked (reached k) (unpaged (u .core .ktcs .fcn) (q .state)) _ _ (λ t. unpagedFrom-reached k) (λ t. pagedFrom-reached k)

@@ -4,13 +4,13 @@ use mathlib.Core.Path.{_≡_, refl, sym, ap, ap₂, subst, _∙_}
 use mathlib.Core.Bool.{Bool, true, false, not, _&&_}
 use mathlib.Core.List.{List, [], _∷_, _++_}
 use borrow.Author.Tests.{not-true}
-use Rattle.rules.specs.Types.{Maps, Cells, Unit, Call, Entry, Outcome}
+use Rattle.rules.specs.Types.{Maps, Size, Cells, Unit, Call, Entry, Outcome}
 use Rattle.rules.specs.Memory.{Memory}
 use Rattle.rules.specs.Unit.{zeroUnit}
 use Rattle.rules.specs.Maps.{looked}
 use Rattle.rules.specs.Program.{Prog, run, plainRun}
 use Rattle.rules.specs.Order.{outcome}
-use Rattle.rules.specs.Calls.{called, initOf, cellsAfter, settled, callOf, freshWith}
+use Rattle.rules.specs.Calls.{called, initOf, cellsAfter, settled, callOf, fresh}
 use Rattle.rules.specs.Runs.{Seen, seenIn, seenAlong, stationAfter, plainOf, plainDecision, plainSettled, plainCall, plainIn, plainAlong, visit, visitsOf, peeks, storesPad, deedIn, deedOf, History, noneInUse, inUseAfter, heard, noneOutdated, allowed, meets, historyOf}
 use Rattle.rules.proofs.Laws.Choices.{true-is-not-false, both-true, both-false}
 use Rattle.rules.proofs.Demand3.Visits.{inUseAfter-append, noneOutdated-left, noneOutdated-right, noneOutdated-inUseAfter}
@@ -19,6 +19,7 @@ use Rattle.rules.proofs.Demand3.Always.{Always, ends, asks, peeks-at}
 use Rattle.rules.proofs.Demand3.Endings.{Ending, call-ends}
 use Rattle.rules.proofs.Demand3.Sound.{Sound, asked, effect-sound, emptied-sound}
 use Rattle.rules.proofs.Laws.Pages.{pageBy, nonzero-tag}
+use Rattle.rules.proofs.Sizes.{size-stays}
 use Rattle.rules.proofs.Demand3.Wellformed.{fresh-fit, station-fit}
 use Rattle.rules.proofs.Promises.{CellsTrueAt, CellsTrueThroughout, SameAsPlain}
 
@@ -50,14 +51,14 @@ module _ (P : Outcome → Type 0) (m : Memory) (r : Maps) where
   same-run (peeks-at a) k h s e n = true-is-not-false e
 
 module _ (m : Memory) (u : Unit) (h : History) (c : Call) (s : Sound m (u .maps) (u .cells) h) (a : allowed h (deedOf m u c) ≡ true) where
-  unreached : (peeks m (u .maps) (called m (u .core) (u .maps) c) (u .cells) ≡ false) × (storesPad (deedOf m u c .effect) ≡ false)
+  unreached : (peeks m (u .maps) (called m (u .cells .size) (u .core) (u .maps) c) (u .cells) ≡ false) × (storesPad (deedOf m u c .effect) ≡ false)
   unfolding allowed deedOf deedIn
   unreached = both-false _ _ (not-true (deedOf m u c .reaches) (both-true _ (noneOutdated h (deedOf m u c .visits)) a .0))
 
-  call-run : Same (Ending (u .core)) m (u .maps) (called m (u .core) (u .maps) c) (u .cells) h
+  call-run : Same (Ending (u .core)) m (u .maps) (called m (u .cells .size) (u .core) (u .maps) c) (u .cells) h
   unfolding allowed deedOf deedIn
   call-run =
-      same-run (Ending (u .core)) m (u .maps) (call-ends (u .core) m (u .maps) c) (u .cells) h s (unreached .0)
+      same-run (Ending (u .core)) m (u .maps) (call-ends (u .core) m (u .cells .size) (u .maps) c) (u .cells) h s (unreached .0)
       (both-true (not (deedOf m u c .reaches)) _ a .1)
 
   call-same : seenIn (callOf m u c) ≡ plainCall m (plainOf u) c
@@ -80,7 +81,8 @@ run-same m u h (c ∷ cs) s e =
     let (a, b) = both-true (allowed h (deedOf m u c)) _ e in
     rw (← call-same m u h c s a)
     (ap (λ (l : List Seen). seenIn (callOf m u c) ∷ l)
-    (run-same (callOf m u c .memory) (callOf m u c .reply .unit) (heard h (deedOf m u c)) cs (call-sound m u h c s a) b))
+    (run-same (callOf m u c .memory) (callOf m u c .reply .unit) (heard h (deedOf m u c)) cs (call-sound m u h c s a) b
+    ∙ ap (λ (x : Size). plainAlong (callOf m u c .memory) (plainIn x (seenIn (callOf m u c))) cs) (size-stays m u c)))
 
 run-sound :
     (m : Memory) (u : Unit) (h : History) (cs : List Call) → Sound m (u .maps) (u .cells) h → meets m u h cs ≡ true
@@ -99,18 +101,18 @@ meets-prefix m u h (c ∷ cs) ds e =
     ap₂ (λ (x y : Bool). x && y) a (meets-prefix _ _ _ cs ds b)
 
 -- before the first call no page is in use, and all cells are empty
-fresh-sound : (n : ℕ) (m : Memory) → Sound m (freshWith n .maps) (freshWith n .cells) noneInUse
-unfolding freshWith callOf settled run called initOf outcome cellsAfter noneInUse
-fresh-sound n m = emptied-sound m (freshWith n .maps) (zeroUnit n .cells)
+fresh-sound : (s : Size) (m : Memory) → Sound m (fresh s .maps) (fresh s .cells) noneInUse
+unfolding fresh callOf settled run called initOf outcome cellsAfter noneInUse
+fresh-sound s m = emptied-sound m (fresh s .maps) (zeroUnit s .cells)
 
 -- Demand 3, second part --------------------------------------------------------------------------------------------------------------
 
 -- at the end of a run, and so after each of its calls
 cells-true :
-    (n : ℕ) → 0 < n → (m : Memory) (cs : List Call) → meets m (freshWith n) noneInUse cs ≡ true
-    → CellsTrueAt (stationAfter m (freshWith n) cs) (historyOf m (freshWith n) noneInUse cs)
-cells-true n some m cs e i z o =
-    let p = pageBy _ (station-fit m (freshWith n) cs (fresh-fit n some) .cells .tags i) in
+    (s : Size) (m : Memory) (cs : List Call) → meets m (fresh s) noneInUse cs ≡ true
+    → CellsTrueAt (stationAfter m (fresh s) cs) (historyOf m (fresh s) noneInUse cs)
+cells-true s m cs e i z o =
+    let p = pageBy _ (station-fit m (fresh s) cs (fresh-fit s) .cells .tags i) in
     record {
       user = p .user;
       page = p .page;
@@ -118,12 +120,12 @@ cells-true n some m cs e i z o =
       tag = p .same;
       word =
           held-true
-          (run-sound m (freshWith n) noneInUse cs (fresh-sound n m) e .held i (p .user) (p .page) (p .below)
+          (run-sound m (fresh s) noneInUse cs (fresh-sound s m) e .held i (p .user) (p .page) (p .below)
           (nonzero-tag (p .user) (p .page) (λ t. z (p .same ∙ t))) (p .same)) (rw (p .same) at o);
     }
 
 pub cells-true-throughout : CellsTrueThroughout
-cells-true-throughout n some m cs ds e = cells-true n some m cs (meets-prefix m (freshWith n) noneInUse cs ds e)
+cells-true-throughout s m cs ds e = cells-true s m cs (meets-prefix m (fresh s) noneInUse cs ds e)
 
 pub same-as-plain : SameAsPlain
-same-as-plain n m cs e = run-same m (freshWith n) noneInUse cs (fresh-sound n m) e
+same-as-plain s m cs e = run-same m (fresh s) noneInUse cs (fresh-sound s m) e

@@ -7,7 +7,7 @@ use lib.Dec.{eqb}
 use borrow.Author.Tests.{eqb-true, eqb-false, not-true}
 use Rattle.rules.specs.Types.{Maps, Cell, Cells, Found, Walk, Entry, Effect}
 use Rattle.rules.specs.Memory.{Memory, evenOf, storeWord, storeByte}
-use Rattle.rules.specs.Unit.{emptyCell, emptied}
+use Rattle.rules.specs.Unit.{there, emptyCell, cellAt, emptied}
 use Rattle.rules.specs.Maps.{execZero, execZeroEntry, walkOf, entryOf, walked, tagOf, cellOf, filled, filledBy, missed, soughtIn, looked, holds, forgotten}
 use Rattle.rules.specs.Calls.{mapsAfter, cellsAfter, memoryAfter}
 use Rattle.rules.specs.Runs.{visit, Use, unused, History, usedBy, told, inUseAfter, struck, historyAfter, isOutdated, noneOutdated, storesPad}
@@ -17,8 +17,7 @@ use Rattle.rules.proofs.Laws.Walks.{DifferAt, walk-spared, byte-stored-
 use Rattle.rules.proofs.Laws.Pages.{same-user, same-page, tag-other}
 use Rattle.rules.proofs.Demand3.Uses.{Live, Held, used-live, used-held, held-used, held-true, struck-live, struck-held}
 use Rattle.rules.proofs.Demand3.Always.{EvenStore}
-use Rattle.rules.proofs.Laws.CellsLaws.{empty-tag, found-has-tag, cell-emptied, cell-forgotten, page-held}
-use Rattle.rules.proofs.Promises.{cellAt}
+use Rattle.rules.proofs.Laws.CellsLaws.{there-filled, empty-tag, found-has-tag, cell-emptied, cell-forgotten, page-held}
 
 -- every page's use agrees with its walk
 abbrev AllLive : Memory → Maps → History → Type 0
@@ -88,10 +87,11 @@ module _ (m : Memory) (r : Maps) (k : Cells) (h : History) (s : Sound m r k h) (
           record {
             live = kept-sound .live;
             held = λ i.
-                getD-set-either (Holds m r after) (k .list) i (k .counter - 0o10) (record { tag = tagOf user p; word = v }) emptyCell
+                rw (there-filled k (tagOf user p) v)
+                (getD-set-either (Holds m r after) (there k) i (k .counter - 0o10) (record { tag = tagOf user p; word = v }) emptyCell
                 (told-holds m r h user p b _ (record { tag = tagOf user p; word = v }) (λ n. absurd (n refl))
                 (λ _. used-held e fit (s .live user p b)))
-                (cell-holds i);
+                (cell-holds i));
           }
 
       filledBy-sound : (w : Walk) → walkOf m r user p ≡ w → Sound m r (filledBy k (tagOf user p) w) after

@@ -6,26 +6,26 @@ use mathlib.Core.List.{List, [], _∷_}
 use Prim.Native.Nat.{ℕ, _-_, _<_}
 use native.Mathlib.Omega.{arith}
 use lib.Dec.{eqb}
-use lib.ListN.{length, getD, set, length-replicate}
+use lib.ListN.{length, length-replicate}
 use borrow.Author.Tests.{eqb-false}
-use Rattle.rules.specs.Types.{Maps, Cell, Cells, Unit, Call, Found, Part, Walk, Effect, Outcome, Looked}
+use Rattle.rules.specs.Types.{Maps, Cell, Size, Cells, Unit, Call, Found, Part, Walk, Effect, Outcome, Looked}
 use Rattle.rules.specs.Memory.{Memory}
-use Rattle.rules.specs.Unit.{zeroUnit, emptyCell, emptied}
+use Rattle.rules.specs.Unit.{countOf, room, there, zeroUnit, emptyCell, cellAt, emptied}
 use Rattle.rules.specs.Registers.{cellStored, padStored}
 use Rattle.rules.specs.Maps.{execZero, walkOf, tagOf, tagIn, cellOf, filled, filledBy, missed, soughtIn, looked, holds, forgotten}
 use Rattle.rules.specs.Program.{Prog, run}
 use Rattle.rules.specs.Order.{outcome}
-use Rattle.rules.specs.Calls.{called, initOf, cellsAfter, settled, callOf, freshWith}
+use Rattle.rules.specs.Calls.{called, initOf, cellsAfter, settled, callOf, fresh}
 use Rattle.rules.specs.Runs.{Turn, unitAfter, stationAfter}
 use Rattle.rules.proofs.Laws.Choices.{picked}
 use Rattle.rules.proofs.Laws.Lists.{getD-set-either, set-cases}
 use Rattle.rules.proofs.Laws.Pages.{tagOf-below, tag-other}
 use Rattle.rules.proofs.Laws.Counter.{emptied-names, forgotten-names, padStored-names, filled-names}
-use Rattle.rules.proofs.Laws.CellsLaws.{empty-tag, missing-has-none, cell-emptied, cell-forgotten}
+use Rattle.rules.proofs.Laws.CellsLaws.{some-cells, all-there, there-filled, there-stored, empty-tag, missing-has-none, cell-emptied, cell-forgotten}
 use Rattle.rules.proofs.Laws.CoreLaws.{initCore-fits}
 use Rattle.rules.proofs.Demand3.Always.{Always, ends, asks, peeks-at}
 use Rattle.rules.proofs.Demand3.Endings.{Ending, call-ends}
-use Rattle.rules.proofs.Promises.{cellAt, CellsFit, UnitFit, AlwaysFit}
+use Rattle.rules.proofs.Promises.{CellsFit, UnitFit, AlwaysFit}
 
 -- One cell -------------------------------------------------------------------------------------------------------------------------
 
@@ -50,11 +50,11 @@ cellStored-fit c p v h =
 -- The cells ------------------------------------------------------------------------------------------------------------------------
 
 module _ (n : ℕ) where
-  emptied-fit : (k : Cells) → length (k .list) ≡ n → 0 < n → CellsFit n (emptied k)
+  emptied-fit : (k : Cells) → countOf (k .size) ≡ n → length (there k) ≡ n → length (k .list) ≡ room → 0 < n → CellsFit n (emptied k)
   unfolding emptied
-  emptied-fit k l z =
+  emptied-fit k s l r z =
       record {
-        names = emptied-names n k l z;
+        names = emptied-names n k s l r z;
         once = λ i j e o. absurd (o (ap (λ (c : Cell). c .tag) (cell-emptied k i) ∙ empty-tag));
         empty = λ i. rw (cell-emptied k i) (emptyCell-fit .empty);
         tags = λ i. rw (cell-emptied k i) (emptyCell-fit .tag);
@@ -106,18 +106,20 @@ module _ (n : ℕ) where
         }
       where
         fit : (j : ℕ) → CellFit (cellAt (padStored k i p v) j)
-        fit j = getD-set-either CellFit (k .list) j i _ emptyCell (cellStored-fit _ p v (cell-fit i)) (cell-fit j)
+        fit j =
+            rw (there-stored k i p v) (getD-set-either CellFit (there k) j i _ emptyCell (cellStored-fit _ p v (cell-fit i)) (cell-fit j))
 
         same : (j : ℕ) → cellAt (padStored k i p v) j .tag ≡ cellAt k j .tag
         same j =
-            ⊎-elim (λ a. ap tagIn (a .1) ∙ cellStored-tag (cellAt k i) p v ∙ ap (λ (x : ℕ). cellAt k x .tag) (sym (a .0))) (λ a. ap tagIn a)
-            (set-cases (k .list) j i (cellStored (cellAt k i) p v) emptyCell)
+            rw (there-stored k i p v)
+            (⊎-elim (λ a. ap tagIn (a .1) ∙ cellStored-tag (cellAt k i) p v ∙ ap (λ (x : ℕ). cellAt k x .tag) (sym (a .0))) (λ a. ap tagIn a)
+            (set-cases (there k) j i (cellStored (cellAt k i) p v) emptyCell))
 
     module _ (tag : ℕ) (z : tag ≡ 0 → ⊥) (b : tag < 256) (missing : cellOf k tag ≡ Found.Missing) where
       filled-once :
           (w i j : ℕ) → cellAt (filled k tag w) i .tag ≡ cellAt (filled k tag w) j .tag → (cellAt (filled k tag w) i .tag ≡ 0 → ⊥) → i ≡ j
-      unfolding filled tagIn
-      filled-once w i j e o = go (set-cases (k .list) i c v emptyCell) (set-cases (k .list) j c v emptyCell)
+      unfolding tagIn
+      filled-once w i j e o = go (cases i) (cases j)
         where
           c : ℕ
           c = k .counter - 0o10
@@ -128,9 +130,12 @@ module _ (n : ℕ) where
           none : (i : ℕ) → cellAt k i .tag ≡ tag → ⊥
           none = missing-has-none k tag missing z
 
+          cases : (x : ℕ) → ((x ≡ c) × (cellAt (filled k tag w) x ≡ v)) ⊎ (cellAt (filled k tag w) x ≡ cellAt k x)
+          cases x = rw (there-filled k tag w) (set-cases (there k) x c v emptyCell)
+
           go :
-              ((i ≡ c) × (getD (set (k .list) c v) i emptyCell ≡ v)) ⊎ (getD (set (k .list) c v) i emptyCell ≡ cellAt k i)
-              → ((j ≡ c) × (getD (set (k .list) c v) j emptyCell ≡ v)) ⊎ (getD (set (k .list) c v) j emptyCell ≡ cellAt k j) → i ≡ j
+              ((i ≡ c) × (cellAt (filled k tag w) i ≡ v)) ⊎ (cellAt (filled k tag w) i ≡ cellAt k i)
+              → ((j ≡ c) × (cellAt (filled k tag w) j ≡ v)) ⊎ (cellAt (filled k tag w) j ≡ cellAt k j) → i ≡ j
           go (inl a) (inl d) = a .0 ∙ sym (d .0)
           go (inl a) (inr d) = absurd (none j (ap tagIn (sym d) ∙ sym e ∙ ap tagIn (a .1)))
           go (inr a) (inl d) = absurd (none i (ap tagIn (sym a) ∙ e ∙ ap tagIn (d .1)))
@@ -148,8 +153,9 @@ module _ (n : ℕ) where
         where
           fit : (i : ℕ) → CellFit (cellAt (filled k tag w) i)
           fit i =
-              getD-set-either CellFit (k .list) i (k .counter - 0o10) (record { tag = tag; word = w }) emptyCell
-              (record { empty = λ e. absurd (z e); tag = b }) (cell-fit i)
+              rw (there-filled k tag w)
+              (getD-set-either CellFit (there k) i (k .counter - 0o10) (record { tag = tag; word = w }) emptyCell
+              (record { empty = λ e. absurd (z e); tag = b }) (cell-fit i))
 
       filledBy-fit : (w : Walk) → CellsFit n (filledBy k tag w)
       unfolding filledBy
@@ -169,7 +175,7 @@ module _ (n : ℕ) where
     unfolding cellsAfter
     effect-fit Effect.Keep = h
     effect-fit (Effect.Forget tag) = forgotten-fit tag
-    effect-fit (Effect.Reload r) = emptied-fit k (h .names .number) some-cell
+    effect-fit (Effect.Reload r) = emptied-fit k (h .names .size) (h .names .number) (h .names .listed) some-cell
     effect-fit (Effect.StoreWord at v) = h
     effect-fit (Effect.StoreByte at v) = h
     effect-fit (Effect.StorePad i p v) = padStored-fit i p v
@@ -188,12 +194,14 @@ module _ (n : ℕ) where
 pub call-fit : {n : ℕ} (m : Memory) (u : Unit) (c : Call) → UnitFit n u → UnitFit n (callOf m u c .reply .unit)
 unfolding callOf settled
 call-fit m u c h =
-    let (e, k) = run-fit _ (Ending (u .core)) m (u .maps) (call-ends (u .core) m (u .maps) c) (u .cells) (h .cells) in
+    let (e, k) = run-fit _ (Ending (u .core)) m (u .maps) (call-ends (u .core) m (u .cells .size) (u .maps) c) (u .cells) (h .cells) in
     record { core = e .fits (h .core); cells = effect-fit _ _ k _ }
 
-pub fresh-fit : (n : ℕ) → 0 < n → UnitFit n (freshWith n)
-unfolding freshWith callOf settled run called initOf outcome cellsAfter zeroUnit emptied
-fresh-fit n some = record { core = initCore-fits _; cells = emptied-fit n (zeroUnit n .cells) (length-replicate n emptyCell) some }
+pub fresh-fit : (s : Size) → UnitFit (countOf s) (fresh s)
+unfolding fresh callOf settled run called initOf outcome cellsAfter zeroUnit emptied
+fresh-fit s =
+    let zeros : length (zeroUnit s .cells .list) ≡ room = length-replicate room emptyCell in
+    record { core = initCore-fits _; cells = emptied-fit (countOf s) (zeroUnit s .cells) refl (all-there (zeroUnit s .cells) zeros) zeros (some-cells s) }
 
 pub station-fit : {n : ℕ} (m : Memory) (u : Unit) (cs : List Call) → UnitFit n u → UnitFit n (stationAfter m u cs .unit)
 unfolding stationAfter
@@ -206,4 +214,4 @@ turns-fit [] u h = h
 turns-fit (t ∷ ts) u h = turns-fit ts _ (call-fit (t .memory) u (t .call) h)
 
 pub always-fit : AlwaysFit
-always-fit n some ts = turns-fit ts (freshWith n) (fresh-fit n some)
+always-fit s ts = turns-fit ts (fresh s) (fresh-fit s)

@@ -2,11 +2,11 @@
 use mathlib.Core.Path.{_≡_, refl, sym, ap}
 use mathlib.Core.Logic.{_⊎_, inl, inr, ⊎-map}
 use mathlib.Core.Bool.{Bool, true, false}
-use mathlib.Core.List.{List, [], _∷_}
+use mathlib.Core.List.{List, [], _∷_, map}
 use Prim.Native.Nat.{ℕ, zero, suc, _+_}
 use native.Mathlib.Omega.{arith}
 use lib.Dec.{eqb}
-use lib.ListN.{getD, set, replicate}
+use lib.ListN.{length, getD, set, take, replicate}
 use borrow.Author.Tests.{eqb-true, eqb-false}
 use Rattle.rules.specs.Types.{Found}
 use Rattle.rules.specs.Choice.{pick}
@@ -35,6 +35,24 @@ module _ {A : Type 0} where
   getD-replicate-default zero i d = refl
   getD-replicate-default (suc n) zero d = refl
   getD-replicate-default (suc n) (suc i) d = getD-replicate-default n i d
+
+-- the first elements of a list, under what is done to the whole of it
+module _ {A : Type 0} where
+  pub take-set : (n i : ℕ) (l : List A) (v : A) → take n (set l i v) ≡ set (take n l) i v
+  take-set zero i l v = refl
+  take-set (suc n) i [] v = refl
+  take-set (suc n) zero (x ∷ xs) v = refl
+  take-set (suc n) (suc i) (x ∷ xs) v = ap (λ (l : List A). x ∷ l) (take-set n i xs v)
+
+  pub take-map : {B : Type 0} (f : A → B) (n : ℕ) (l : List A) → take n (map f l) ≡ map f (take n l)
+  take-map f zero l = refl
+  take-map f (suc n) [] = refl
+  take-map f (suc n) (x ∷ xs) = ap (λ (l : List _). f x ∷ l) (take-map f n xs)
+
+  pub take-replicate : {B : Type 0} (n : ℕ) (l : List A) (v : B) → take n (replicate (length l) v) ≡ replicate (length (take n l)) v
+  take-replicate zero l v = refl
+  take-replicate (suc n) [] v = refl
+  take-replicate (suc n) (x ∷ xs) v = ap (λ (l : List _). v ∷ l) (take-replicate n xs v)
 
 -- an element that is found is there
 pub found-is-there :

@@ -6,7 +6,7 @@ use mathlib.Core.List.{List, [], _++_}
 use Prim.Native.Nat.{ℕ, _+_, _<_}
 use lib.Dec.{ltb}
 use lib.ListN.{length}
-use Rattle.rules.specs.Types.{Cells, Unit, Access, Call, Operating, Associative, Register, Target, Place, Fault, Answer, Physical}
+use Rattle.rules.specs.Types.{Size, Cells, Unit, Access, Call, Operating, Associative, Register, Target, Place, Fault, Answer, Physical}
 use Rattle.rules.specs.Memory.{Memory}
 use Rattle.rules.specs.Maps.{pageOf}
 use Rattle.rules.specs.Registers.{placeOf}
@@ -30,7 +30,7 @@ abbrev pub GoesBySteps : Type 0
 GoesBySteps = (m : Memory) (u : Unit) (q : Access) → GoesTo m u q (deedOf m u (Call.Access q) .visits)
 
 -- "no call reaches the scratchpad words or the replacement register": told by the physical address that comes back with answers 0 and 8. A
--- scratchpad word is reached by any operation, KTMR by those that read; a store into KTMR does nothing, and the premise does without it.
+-- scratchpad word that the unit has is reached by any operation, KTMR by those that read; a store into KTMR does nothing, and the premise does without it.
 abbrev pub targetInCells : ℕ → Target → Bool
 targetInCells op Target.Memory = false
 targetInCells op (Target.In (Register.Operating g)) = false
@@ -42,14 +42,14 @@ inCells op (Place.There t) = targetInCells op t
 inCells op Place.Window = false
 inCells op Place.Nowhere = false
 
-abbrev pub placeAt : Memory → Physical → Place
-placeAt m (Physical.At at) = placeOf (length m) at
-placeAt m Physical.Nowhere = Place.Nowhere
+abbrev pub placeAt : Memory → Size → Physical → Place
+placeAt m s (Physical.At at) = placeOf s (length m) at
+placeAt m s Physical.Nowhere = Place.Nowhere
 
 abbrev pub ReachesByAnswer : Type 0
 ReachesByAnswer =
     (m : Memory) (u : Unit) (q : Access)
-    → deedOf m u (Call.Access q) .reaches ≡ inCells (q .op) (placeAt m (shown (callOf m u (Call.Access q) .reply .answer) .physical))
+    → deedOf m u (Call.Access q) .reaches ≡ inCells (q .op) (placeAt m (u .cells .size) (shown (callOf m u (Call.Access q) .reply .answer) .physical))
 
 -- An interrupt, a trap and INIT go to no page and reach nothing.
 pub record OtherCallsIdle (m : Memory) (u : Unit) : Type 0 where
@@ -67,7 +67,7 @@ OthersGoNowhere = (m : Memory) (u : Unit) → OtherCallsIdle m u
 pub record StoreDone (m : Memory) (u : Unit) (q : Access) (at : ℕ) (t : Target) : Type 0 where
   pub answer : callOf m u (Call.Access q) .reply .answer ≡ Answer.Done 0 at
   pub operation : 1 < q .op
-  pub place : placeOf (length m) at ≡ Place.There t
+  pub place : placeOf (u .cells .size) (length m) at ≡ Place.There t
 
 -- "It is forgotten by INIT, a KTUM or KTEM store, or any of answers 4 to 9 with it as the page at fault.": `AtFault` of Ways.antt says of each
 -- such answer which page is at fault, and an unpaged 9 has none

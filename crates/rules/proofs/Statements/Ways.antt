@@ -100,7 +100,7 @@ module _ (m : Memory) (u : Unit) (q : Access) where
   -- unpaged, and step 10 passed, with this target
   pub record UnpagedThere (t : Target) : Type 0 where
     pub steps : Unpaged
-    pub place : placeOf (length m) (unpagedAt (q .addr)) ≡ Place.There t
+    pub place : placeOf (u .cells .size) (length m) (unpagedAt (q .addr)) ≡ Place.There t
 
   -- paged, which passes step 3
   pub record Paged : Type 0 where
@@ -120,13 +120,13 @@ module _ (m : Memory) (u : Unit) (q : Access) where
   -- step 10 passed
   pub record PagedThere (page : ℕ) (t : Target) : Type 0 where
     pub steps : Granted page
-    pub place : placeOf (length m) (outerAt q page) ≡ Place.There t
+    pub place : placeOf (u .cells .size) (length m) (outerAt q page) ≡ Place.There t
 
   -- the window: "goes on as a user access to KTAD"
   pub record Windowed : Type 0 where
     pub page : ℕ
     pub steps : Granted page
-    pub place : placeOf (length m) (outerAt q page) ≡ Place.Window
+    pub place : placeOf (u .cells .size) (length m) (outerAt q page) ≡ Place.Window
     pub no-fetch : isFetch q ≡ false
 
   -- step 5 passed again
@@ -142,7 +142,7 @@ module _ (m : Memory) (u : Unit) (q : Access) where
   -- step 10 passed again
   pub record InnerThere (page : ℕ) (t : Target) : Type 0 where
     pub steps : InnerGranted page
-    pub place : placeOf (length m) (innerAt u q page) ≡ Place.There t
+    pub place : placeOf (u .cells .size) (length m) (innerAt u q page) ≡ Place.There t
 
   -- Why steps 5 to 11 refuse a paged access: the fault, whether the page at fault is a window's inner one, its tag, and the cells as step 6
   -- left them. In 01's order.
@@ -155,10 +155,10 @@ module _ (m : Memory) (u : Unit) (q : Access) where
         → AtFault f false (outerTag u q) (outer m u q .cells)
     -- "10. Target at or beyond L and not a register above (9)."; the window "by fetch ..: time-out at step 10"
     nowhere :
-        {page : ℕ} → Granted page → placeOf (length m) (outerAt q page) ≡ Place.Nowhere
+        {page : ℕ} → Granted page → placeOf (u .cells .size) (length m) (outerAt q page) ≡ Place.Nowhere
         → AtFault Fault.NoTarget false (outerTag u q) (outer m u q .cells)
     window-by-fetch :
-        {page : ℕ} → Granted page → placeOf (length m) (outerAt q page) ≡ Place.Window → isFetch q ≡ true
+        {page : ℕ} → Granted page → placeOf (u .cells .size) (length m) (outerAt q page) ≡ Place.Window → isFetch q ≡ true
         → AtFault Fault.NoTarget false (outerTag u q) (outer m u q .cells)
     -- "11. For a fetch, the word (8)."
     forbidden-word :
@@ -173,10 +173,10 @@ module _ (m : Memory) (u : Unit) (q : Access) where
         {f : Fault} → InnerAsked → Keys (q .op) false (inner m u q .entry) (Ruling.Refused f)
         → AtFault f true (innerTag u q) (inner m u q .cells)
     inner-nowhere :
-        {page : ℕ} → InnerGranted page → placeOf (length m) (innerAt u q page) ≡ Place.Nowhere
+        {page : ℕ} → InnerGranted page → placeOf (u .cells .size) (length m) (innerAt u q page) ≡ Place.Nowhere
         → AtFault Fault.NoTarget true (innerTag u q) (inner m u q .cells)
     window-on-window :
-        {page : ℕ} → InnerGranted page → placeOf (length m) (innerAt u q page) ≡ Place.Window
+        {page : ℕ} → InnerGranted page → placeOf (u .cells .size) (length m) (innerAt u q page) ≡ Place.Window
         → AtFault Fault.NoTarget true (innerTag u q) (inner m u q .cells)
 
   -- Why an access ends as it does: the test of the step that ends it, and that all earlier steps passed.
@@ -201,9 +201,9 @@ module _ (m : Memory) (u : Unit) (q : Access) where
         Begun → unpaged (u .core .ktcs .fcn) (q .state) ≡ true → oddWord (q .width) (q .addr) ≡ true → Way (unchanged u Answer.UnpagedOdd)
     -- step 10, unpaged: nowhere, or the window, "Unpaged ..: time-out at step 10"
     unpaged-nowhere :
-        Unpaged → placeOf (length m) (unpagedAt (q .addr)) ≡ Place.Nowhere → Way (timeOut u q)
+        Unpaged → placeOf (u .cells .size) (length m) (unpagedAt (q .addr)) ≡ Place.Nowhere → Way (timeOut u q)
     unpaged-window :
-        Unpaged → placeOf (length m) (unpagedAt (q .addr)) ≡ Place.Window → Way (timeOut u q)
+        Unpaged → placeOf (u .cells .size) (length m) (unpagedAt (q .addr)) ≡ Place.Window → Way (timeOut u q)
     -- unpaged, all steps passed
     unpaged-fetch :
         {t : Target} {w : ℕ} → UnpagedThere t → isFetch q ≡ true
@@ -247,7 +247,7 @@ pub data Why (m : Memory) (u : Unit) : Call → Ran → Type 0 where
 
 -- what a call decides
 abbrev pub decided : Memory → Unit → Call → Ran
-decided m u c = run m (u .maps) (called m (u .core) (u .maps) c) (u .cells)
+decided m u c = run m (u .maps) (called m (u .cells .size) (u .core) (u .maps) c) (u .cells)
 
 -- a call is its decision, carried out: what is said of the one is said of the other
 abbrev pub CarriedOut : Type 0
@@ -319,7 +319,7 @@ pub data Does (m : Memory) (u : Unit) : Call → Answer → Effect → Type 0 wh
   after-read : {q : Access} {w at : ℕ} → q .op < 2 → Does m u (Call.Access q) (Answer.Done w at) Effect.Keep
   -- answer 0 of a store: what its target asks for
   after-store :
-      {q : Access} {at : ℕ} {t : Target} {e : Effect} → 1 < q .op → placeOf (length m) at ≡ Place.There t → Stores u q at t e
+      {q : Access} {at : ℕ} {t : Target} {e : Effect} → 1 < q .op → placeOf (u .cells .size) (length m) at ≡ Place.There t → Stores u q at t e
       → Does m u (Call.Access q) (Answer.Done 0 at) e
 
 -- "Forget" for answers 4 to 8 and a paged 9 alone, "Reload" for INIT and a KTUM or KTEM store alone, stores for answer 0 alone

@@ -1,6 +1,6 @@
 -- `unit::fresh` meets its contract.
 use mathlib.Core.List.{[]}
-use Rattle.rules.specs.Calls.{freshWith, fresh}
+use Rattle.rules.specs.Calls.{fresh}
 use borrow.Author.Needs.{needs}
 use Rattle.unit.proofs.fresh.Statement.{statement}
 use Rattle.unit.proofs.fresh.Tie as tie
@@ -12,7 +12,7 @@ init-requires : tie.Need-init-requires
 init-requires c κs = search needs
 
 returns : tie.Need-returns
-unfolding freshWith fresh
+unfolding fresh
 returns c = simp (c .before .init .ensures [], c .before .before .zero .ensures)
 
 pub fresh-spec : {M : Type 1} → statement M

@@ -1,0 +1,60 @@
+-- What the 24-cell option says in numbers (T-08), beside what 8 cells say, a row each of one table, computed from the definitions.
+use Prim.Native.Nat.{ℕ}
+use mathlib.Core.Path.{_≡_, refl}
+use mathlib.Core.List.{List, [], _∷_, map}
+use Rattle.rules.specs.Types.{Size, Cells, Associative, Register, Target, Place}
+use Rattle.rules.specs.Unit.{countOf, there}
+use Rattle.rules.specs.Registers.{placeOf, peeked}
+use Rattle.rules.specs.Maps.{tagIn, stepped}
+use Rattle.rules.proofs.Computed.Opened.{opened}
+use Rattle.rules.proofs.Computed.Units.{twentyFour}
+use Rattle.rules.proofs.Computed.Starred.{lookedFor}
+
+-- the pages from the first of these numbers on
+abbrev pub pages1to25 : List ℕ
+pages1to25 =
+    1 ∷ 2 ∷ 3 ∷ 4 ∷ 5 ∷ 6 ∷ 7 ∷ 8 ∷ 9 ∷ 10 ∷ 11 ∷ 12 ∷ 13 ∷ 14 ∷ 15 ∷ 16 ∷ 17 ∷ 18 ∷ 19 ∷ 20 ∷ 21 ∷ 22 ∷ 23 ∷ 24 ∷ 25 ∷ []
+
+-- the scratchpad word of a cell
+abbrev pub padWord : ℕ → Place
+padWord i = Place.There (Target.In (Register.Associative (Associative.Pad i)))
+
+pub record WithTwentyFour : Type 0 where
+  -- "10o to 37o and round with 24"
+  pub counter-round : stepped (countOf Size.TwentyFour) 0o37 ≡ 0o10
+  pub counter-on : stepped (countOf Size.TwentyFour) 0o17 ≡ 0o20
+  -- the twenty-fifth walk refills the first cell
+  pub twenty-fifth-refills :
+      map tagIn (there (lookedFor pages1to25 (twentyFour .cells)))
+      ≡ 25 ∷ 2 ∷ 3 ∷ 4 ∷ 5 ∷ 6 ∷ 7 ∷ 8 ∷ 9 ∷ 10 ∷ 11 ∷ 12 ∷ 13 ∷ 14 ∷ 15 ∷ 16 ∷ 17 ∷ 18 ∷ 19 ∷ 20 ∷ 21 ∷ 22 ∷ 23 ∷ 24 ∷ []
+  -- "KTMR reads the counter times 256: .. 004000 to 017400 with 24"
+  pub ktmr-first : peeked (twentyFour .cells) Associative.Ktmr ≡ 0o004000
+  pub ktmr-last : (k : Cells) → peeked (record { size = k .size; list = k .list; counter = 0o37 }) Associative.Ktmr ≡ 0o017400
+  -- "at 777620o to 777676o with 24; both bytes of each word belong to it"
+  pub last-word : placeOf Size.TwentyFour 0 0o777676 ≡ padWord 23
+  pub last-byte : placeOf Size.TwentyFour 0 0o777677 ≡ padWord 23
+  pub ninth-word : placeOf Size.TwentyFour 0 0o777640 ≡ padWord 8
+  -- "777700o on is nowhere for both"
+  pub past-them : placeOf Size.TwentyFour 0 0o777700 ≡ Place.Nowhere
+  -- "777620o to 777636o with 8 cells"; "777640o to 777677o are .. nowhere for an 8-cell one"
+  pub eighth-of-eight : placeOf Size.Eight 0 0o777636 ≡ padWord 7
+  pub past-eight : placeOf Size.Eight 0 0o777640 ≡ Place.Nowhere
+  pub past-both : placeOf Size.Eight 0 0o777700 ≡ Place.Nowhere
+
+pub with-twenty-four : WithTwentyFour
+unfolding opened
+with-twenty-four =
+    record {
+      counter-round = refl;
+      counter-on = refl;
+      twenty-fifth-refills = refl;
+      ktmr-first = refl;
+      ktmr-last = λ k. refl;
+      last-word = refl;
+      last-byte = refl;
+      ninth-word = refl;
+      past-them = refl;
+      eighth-of-eight = refl;
+      past-eight = refl;
+      past-both = refl;
+    }
