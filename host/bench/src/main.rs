@@ -71,7 +71,7 @@ fn count(unit: &str, accesses: usize) -> ExitCode {
     match unit {
         "library" => count_one(Library(kt11b::Unit::fresh()), accesses),
         "model" => count_one(Model(kt11b_model::Unit::fresh()), accesses),
-        "walk" => count_one(Model(kt11b_model::Unit::fresh_without_cells()), accesses),
+        "walk" => count_one(Model(kt11b_model::Unit::fresh().without_cells()), accesses),
         "nothing" => count_one(Nothing, accesses),
         _ => usage(),
     }
@@ -89,7 +89,7 @@ fn time_all(accesses: usize) -> ExitCode {
     describe(&stream, accesses);
     let mut library = Timed::new(Library(kt11b::Unit::fresh()));
     let mut model = Timed::new(Model(kt11b_model::Unit::fresh()));
-    let mut walk = Timed::new(Model(kt11b_model::Unit::fresh_without_cells()));
+    let mut walk = Timed::new(Model(kt11b_model::Unit::fresh().without_cells()));
     let mut nothing = Timed::new(Nothing);
     for _ in 0..ROUNDS {
         library.round(&stream, accesses / ROUNDS);

@@ -278,7 +278,7 @@ impl Unit {
     /// An unpaged time-out leaves step 4, KTAD and KTDT, and no sequence.
     fn unpaged_access(&mut self, memory: &mut [u8], request: &Request) -> Reply {
         let physical = unpaged_physical(request.address);
-        match Target::at(physical, memory.len()) {
+        match Target::at(physical, memory.len(), self.cells) {
             Target::Window | Target::Nothing => {
                 self.registers[KTAD] = request.address;
                 self.registers[KTDT] = request.stored_data();
@@ -306,7 +306,7 @@ impl Unit {
             return self.refuse(request, fault(7));
         }
         let physical = entry.physical(request.address);
-        match Target::at(physical, memory.len()) {
+        match Target::at(physical, memory.len(), self.cells) {
             Target::Window if !request.fetch() => self.window_access(memory, request),
             Target::Window | Target::Nothing => self.refuse(request, fault(9)),
             target if request.fetch() => self.fetch_access(memory, request, &entry, target),
@@ -324,7 +324,7 @@ impl Unit {
             Err(answer) => return self.refuse(request, fault(answer)),
         };
         let physical = entry.physical(address);
-        match Target::at(physical, memory.len()) {
+        match Target::at(physical, memory.len(), self.cells) {
             Target::Window | Target::Nothing => self.refuse(request, fault(9)),
             target => self.transfer(memory, request, physical, target),
         }

@@ -75,14 +75,16 @@ fn octal(digits: &[u8]) -> Option<u16> {
 }
 
 /// The unit and the memory lent to it.
+#[derive(Clone)]
 pub struct Machine {
     pub unit: Unit,
     pub memory: Vec<u8>,
 }
 
 impl Machine {
-    pub fn new() -> Machine {
-        Machine { unit: Unit::fresh(), memory: vec![0; MEMORY_BYTES] }
+    /// A machine of this unit, over zeroed memory.
+    pub fn of(unit: Unit) -> Machine {
+        Machine { unit, memory: vec![0; MEMORY_BYTES] }
     }
 
     /// A W line stores one memory word behind the unit's back; cells stay.
@@ -104,12 +106,6 @@ impl Machine {
     }
 }
 
-impl Default for Machine {
-    fn default() -> Machine {
-        Machine::new()
-    }
-}
-
 /// The lines of an input; a last line without a newline counts.
 fn lines(input: &[u8]) -> impl Iterator<Item = &[u8]> {
     let body = input.strip_suffix(b"\n").unwrap_or(input);
@@ -117,9 +113,9 @@ fn lines(input: &[u8]) -> impl Iterator<Item = &[u8]> {
     whole.into_iter().flat_map(|body| body.split(|&byte| byte == b'\n'))
 }
 
-/// Writes the bench program's whole output for an input.
-pub fn run(input: &[u8], output: &mut impl Write) -> std::io::Result<()> {
-    let mut machine = Machine::new();
+/// Writes the bench program's whole output for an input, with this fresh unit.
+pub fn run(unit: Unit, input: &[u8], output: &mut impl Write) -> std::io::Result<()> {
+    let mut machine = Machine::of(unit);
     let mut calls = 0u64;
     output.write_all(HEADER)?;
     for (number, line) in (1u64..).zip(lines(input)) {

@@ -8,11 +8,12 @@ mod state;
 
 pub mod bench;
 pub mod generate;
+pub mod options;
 
 pub use instruction::Kind;
 pub use maps::{map_page, pointed_place, route, simple_pages, Route};
 pub use registers::Target;
 pub use state::{
-    FetchMemory, Reply, Unit, Wait, AV, DS, ERRORS, FCN, IU, IV, KTAD, KTDT, KTEM, KTIC, KTPC,
-    KTPS, KTSP, KTUM, PV, RV, SS, UM, VECTORS, WV,
+    FetchMemory, Reply, Unit, Wait, AV, DS, ERRORS, FCN, FEW_CELLS, IU, IV, KTAD, KTDT, KTEM, KTIC,
+    KTPC, KTPS, KTSP, KTUM, MANY_CELLS, OTHER_COUNT, PV, RV, SS, UM, VECTORS, WV,
 };

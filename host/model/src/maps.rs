@@ -1,7 +1,7 @@
 //! From a page to its entry: the map registers, the walk, and the cells.
 
 use crate::registers::word_at;
-use crate::state::{Unit, FIRST_CELL, KTEM, KTUM};
+use crate::state::{Unit, FEW_CELLS, FIRST_CELL, KTEM, KTUM};
 
 /// Map word bits: 15 resident, 14 public, 13 write-enabled.
 const RESIDENT: u16 = 0o100000;
@@ -125,13 +125,14 @@ impl Unit {
         Some(Entry { word, exec_zero: false })
     }
 
-    /// The cell that holds this tag.
+    /// The cell that holds this tag. Each loop has a length that the compiler knows, since this is the part of a hit that is timed.
     #[inline]
     pub(crate) fn hit(&self, tag: u8) -> Option<usize> {
-        if self.has_cells {
-            self.tags.iter().position(|&held| held == tag)
-        } else {
-            None
+        let holds = |&held: &u8| held == tag;
+        match self.cells {
+            _ if !self.has_cells => None,
+            FEW_CELLS => self.tags[..FEW_CELLS].iter().position(holds),
+            _ => self.tags.iter().position(holds),
         }
     }
 
@@ -150,15 +151,16 @@ impl Unit {
         }
     }
 
-    /// A finished walk fills the cell the counter names; the counter steps 10o to 17o and round.
+    /// A finished walk fills the cell the counter names; the counter steps, and comes round after the unit's last cell.
     #[inline]
     fn fill(&mut self, tag: u8, word: u16) {
         if !self.has_cells {
             return;
         }
-        let cell = usize::from(self.counter - FIRST_CELL) & 7;
+        let cell = usize::from(self.counter - FIRST_CELL);
         self.tags[cell] = tag;
         self.words[cell] = word;
-        self.counter = FIRST_CELL + (self.counter + 1) % 8;
+        let last = cell + 1 == self.cells;
+        self.counter = if last { FIRST_CELL } else { self.counter + 1 };
     }
 }

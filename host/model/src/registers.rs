@@ -1,6 +1,6 @@
 //! What lies at a physical address, and reads and stores there.
 
-use crate::state::{Unit, ERRORS, FCN, IU, KTEM, KTUM};
+use crate::state::{Unit, ERRORS, FCN, IU, KTEM, KTUM, MANY_CELLS};
 
 /// What a physical address names.
 #[derive(Clone, Copy, PartialEq, Eq, Debug)]
@@ -16,8 +16,9 @@ pub enum Target {
 }
 
 impl Target {
+    /// What lies there for a unit with so many cells, over so much memory.
     #[inline]
-    pub fn at(physical: u32, length: usize) -> Target {
+    pub fn at(physical: u32, length: usize, cells: usize) -> Target {
         if (physical as usize) < length {
             return Target::Memory(physical as usize);
         }
@@ -27,6 +28,10 @@ impl Target {
             0o777576..=0o777577 => Target::Ktcs,
             0o777600..=0o777617 => Target::Register((physical - 0o777600) as usize / 2),
             0o777620..=0o777637 => Target::Scratchpad((physical - 0o777620) as usize / 2),
+            // "777640o to 777677o are registers of a 24-cell unit and nowhere for an 8-cell one."
+            0o777640..=0o777677 if cells == MANY_CELLS => {
+                Target::Scratchpad((physical - 0o777620) as usize / 2)
+            }
             _ => Target::Nothing,
         }
     }

@@ -29,7 +29,13 @@ pub const KTEM: usize = 7;
 /// The trap vectors a trap call may name.
 pub const VECTORS: [u64; 7] = [0o4, 0o10, 0o14, 0o20, 0o24, 0o30, 0o34];
 
-/// The counter names cells 10o to 17o.
+/// "8 and 24 give a fresh unit .. Every other number gives 30 and no unit."
+pub const FEW_CELLS: usize = 8;
+pub const MANY_CELLS: usize = 24;
+/// The refusal to make a unit, which is no answer of a call.
+pub const OTHER_COUNT: u8 = 30;
+
+/// "Cell i (from 0) is the one that the counter names at 10o + i".
 pub(crate) const FIRST_CELL: u8 = 0o10;
 
 /// What the unit is waiting for.
@@ -77,8 +83,11 @@ impl Reply {
 pub struct Unit {
     pub(crate) ktcs: u16,
     pub(crate) registers: [u16; 8],
-    pub(crate) tags: [u8; 8],
-    pub(crate) words: [u16; 8],
+    /// The number of cells that it was made with, 8 or 24.
+    pub(crate) cells: usize,
+    /// Room for the most cells. Those past the unit's own number are not there: nothing reads or fills them.
+    pub(crate) tags: [u8; MANY_CELLS],
+    pub(crate) words: [u16; MANY_CELLS],
     pub(crate) counter: u8,
     pub(crate) wait: Wait,
     pub(crate) fetched: FetchMemory,
@@ -87,13 +96,28 @@ pub struct Unit {
 }
 
 impl Unit {
-    /// "A fresh unit is all zero, then INIT."
+    /// A fresh unit with eight cells.
     pub fn fresh() -> Unit {
+        Unit::fresh_of(FEW_CELLS)
+    }
+
+    /// A fresh unit with so many cells, or the reply 30: "Every other number gives 30 and no unit."
+    pub fn with_cells(number: u64) -> Result<Unit, Reply> {
+        match number {
+            8 => Ok(Unit::fresh_of(FEW_CELLS)),
+            24 => Ok(Unit::fresh_of(MANY_CELLS)),
+            _ => Err(Reply::bare(OTHER_COUNT)),
+        }
+    }
+
+    /// "A fresh unit is all zero, then INIT."
+    fn fresh_of(cells: usize) -> Unit {
         let mut unit = Unit {
             ktcs: 0,
             registers: [0; 8],
-            tags: [0; 8],
-            words: [0; 8],
+            cells,
+            tags: [0; MANY_CELLS],
+            words: [0; MANY_CELLS],
             counter: 0,
             wait: Wait::None,
             fetched: FetchMemory::default(),
@@ -103,9 +127,17 @@ impl Unit {
         unit
     }
 
-    /// A fresh unit with no cells: it walks each time, fills nothing, and its counter stays at 10o.
-    pub fn fresh_without_cells() -> Unit {
-        Unit { has_cells: false, ..Unit::fresh() }
+    /// The unit with no cells that stands beside this one: it walks each time, fills nothing, and its counter stays at 10o. It "has
+    /// registers at the same addresses as the unit it stands beside; it reads 0 there".
+    pub fn without_cells(self) -> Unit {
+        let mut unit = Unit { has_cells: false, ..self };
+        unit.empty_all_cells();
+        unit
+    }
+
+    /// How many cells the unit was made with, 8 or 24; "none changes it".
+    pub fn cells(&self) -> usize {
+        self.cells
     }
 
     pub fn ktcs(&self) -> u16 {
@@ -117,17 +149,17 @@ impl Unit {
         self.registers
     }
 
-    /// The cells' tags; 0 means empty.
-    pub fn tags(&self) -> [u8; 8] {
-        self.tags
+    /// The tags of the cells that the unit has; 0 means empty.
+    pub fn tags(&self) -> &[u8] {
+        &self.tags[..self.cells]
     }
 
-    /// The scratchpad words 10o to 17o.
-    pub fn words(&self) -> [u16; 8] {
-        self.words
+    /// Their scratchpad words, from 777620o on.
+    pub fn words(&self) -> &[u16] {
+        &self.words[..self.cells]
     }
 
-    /// The replacement counter, 10o to 17o.
+    /// The replacement counter: "10o to 17o and round with 8 cells, 10o to 37o and round with 24".
     pub fn counter(&self) -> u8 {
         self.counter
     }
@@ -160,7 +192,7 @@ impl Unit {
         self.ktcs & UM != 0
     }
 
-    /// INIT is always accepted; the eight registers stay (H).
+    /// INIT is always accepted; the eight registers stay (H), and so does the number of cells.
     pub fn init(&mut self) -> Reply {
         self.ktcs = 0;
         self.wait = Wait::None;
@@ -216,10 +248,10 @@ impl Unit {
         self.wait = Wait::Status;
     }
 
-    /// Empties every cell and sets the counter to 10o.
+    /// Empties all cells that the unit has and sets the counter to 10o.
     pub(crate) fn empty_all_cells(&mut self) {
-        self.tags = [0; 8];
-        self.words = [0; 8];
+        self.tags = [0; MANY_CELLS];
+        self.words = [0; MANY_CELLS];
         self.counter = FIRST_CELL;
     }
 
@@ -228,7 +260,7 @@ impl Unit {
         if tag == 0 {
             return;
         }
-        if let Some(cell) = self.tags.iter().position(|&held| held == tag) {
+        if let Some(cell) = self.tags().iter().position(|&held| held == tag) {
             self.tags[cell] = 0;
             self.words[cell] = 0;
         }

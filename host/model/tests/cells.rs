@@ -73,12 +73,12 @@ fn a_walk_that_times_out_fills_nothing_and_does_not_step() {
     let mut rig = Rig::exec();
     rig.write(0o177616, 0o000777);
     assert_eq!(rig.read(0o001000), bare(9));
-    assert_eq!((rig.unit.tags(), rig.unit.counter()), ([0; 8], 0o10));
+    assert_eq!((rig.unit.tags(), rig.unit.counter()), (&[0; 8][..], 0o10));
     // A pointer that leads beyond memory.
     let mut rig = Rig::user();
     rig.put(0o005410, 0o000200);
     assert_eq!(rig.read(0o004000), bare(9));
-    assert_eq!((rig.unit.tags(), rig.unit.counter()), ([0; 8], 0o10));
+    assert_eq!((rig.unit.tags(), rig.unit.counter()), (&[0; 8][..], 0o10));
 }
 
 /// "A hit uses the cell."
@@ -130,7 +130,7 @@ fn an_odd_word_empties_the_pages_cell() {
     rig.read(0o001000);
     assert!(rig.holds(1));
     assert_eq!(rig.read(0o001001), bare(4));
-    assert_eq!((rig.unit.tags(), rig.unit.counter()), ([0; 8], 0o11));
+    assert_eq!((rig.unit.tags(), rig.unit.counter()), (&[0; 8][..], 0o11));
 }
 
 /// "7. Residency (5). 8. Write key for operations 1-3 (6). 9. Privacy (7). 10. Target at or beyond L and not a register above (9)."
@@ -184,7 +184,7 @@ fn an_equal_byte_of_ktum_through_a_window_empties_all_cells() {
     rig.write(0o177610, 0o002615);
     assert_eq!(rig.write_byte(0o177572, 0o000010), done(0, 0o777615));
     assert_eq!(rig.ktum(), 0o004005);
-    assert_eq!((rig.unit.tags(), rig.unit.words()), ([0; 8], [0; 8]));
+    assert_eq!((rig.unit.tags(), rig.unit.words()), (&[0; 8][..], &[0; 8][..]));
     assert_eq!(rig.unit.counter(), 0o10);
 }
 
@@ -351,7 +351,7 @@ fn the_window_by_fetch_and_unpaged_times_out() {
     let mut rig = Rig::exec();
     assert_eq!(rig.fetch(0o177572), bare(9));
     assert_eq!((rig.ktad(), rig.ktic()), (0o177572, 0o177572));
-    assert_eq!((rig.unit.tags(), rig.unit.counter()), ([0; 8], 0o11));
+    assert_eq!((rig.unit.tags(), rig.unit.counter()), (&[0; 8][..], 0o11));
     assert_eq!((rig.ktcs(), rig.unit.wait_number()), (0o000002, 1));
     let mut rig = Rig::new();
     assert_eq!(rig.write(0o177572, 0o000123), bare(9));

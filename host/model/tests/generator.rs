@@ -5,23 +5,24 @@ mod common;
 use common::bench;
 use kt11b_model::bench::{parse, Line, Machine};
 use kt11b_model::generate::Generator;
+use kt11b_model::Unit;
 
 const LINES: usize = 100_000;
 
 #[test]
 fn the_same_seed_gives_the_same_lines() {
-    let mut one = Generator::new(7);
-    let mut other = Generator::new(7);
+    let mut one = Generator::new(7, Unit::fresh());
+    let mut other = Generator::new(7, Unit::fresh());
     for _ in 0..5_000 {
         assert_eq!(one.next_line(), other.next_line());
     }
-    let mut third = Generator::new(8);
+    let mut third = Generator::new(8, Unit::fresh());
     assert!((0..100).any(|_| one.next_line() != third.next_line()));
 }
 
 #[test]
 fn no_line_holds_a_newline_and_each_call_is_answered() {
-    let mut generator = Generator::new(3);
+    let mut generator = Generator::new(3, Unit::fresh());
     let mut input = Vec::new();
     let mut printed = 1;
     for _ in 0..20_000 {
@@ -36,7 +37,7 @@ fn no_line_holds_a_newline_and_each_call_is_answered() {
 
 #[test]
 fn every_answer_comes_hundreds_of_times() {
-    let mut generator = Generator::new(1);
+    let mut generator = Generator::new(1, Unit::fresh());
     for _ in 0..LINES {
         generator.next_line();
     }
@@ -66,8 +67,8 @@ fn every_answer_comes_hundreds_of_times() {
 /// What holds of every state: tags differ, an empty cell's word is 0, the counter stays in range.
 #[test]
 fn the_cells_stay_well_formed() {
-    let mut generator = Generator::new(11);
-    let mut machine = Machine::new();
+    let mut generator = Generator::new(11, Unit::fresh());
+    let mut machine = Machine::of(Unit::fresh());
     for _ in 0..LINES {
         match parse(&generator.next_line()) {
             Some(Line::Word { address, value }) => machine.put_word(address, value),

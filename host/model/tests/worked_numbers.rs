@@ -148,7 +148,7 @@ fn errors_that_look_right() {
         let mut rig = Rig::exec();
         rig.read(0o001000);
         rig.write_byte(address, 0);
-        assert_eq!((rig.unit.tags(), rig.unit.counter()), ([0; 8], 0o10));
+        assert_eq!((rig.unit.tags(), rig.unit.counter()), (&[0; 8][..], 0o10));
     }
     // User page 0 is not exec page 0: it is walked and has a cell.
     let mut rig = Rig::user();
@@ -164,7 +164,7 @@ fn errors_that_look_right() {
 fn fresh_is_all_zero_then_init() {
     let unit = Unit::fresh();
     assert_eq!((unit.ktcs(), unit.registers(), unit.wait_number()), (0, [0; 8], 0));
-    assert_eq!((unit.tags(), unit.words(), unit.counter()), ([0; 8], [0; 8], 0o10));
+    assert_eq!((unit.tags(), unit.words(), unit.counter()), (&[0; 8][..], &[0; 8][..], 0o10));
     assert_eq!(unit.fetch_memory(), Default::default());
 }
 
@@ -184,14 +184,12 @@ fn init_leaves_the_eight_registers() {
 /// The unit that `host/bench` times beside the other; 01 has none without cells.
 #[test]
 fn the_unit_without_cells_walks_each_time() {
-    let mut rig = Rig::mapped();
-    rig.unit = Unit::fresh_without_cells();
-    rig.write(0o177616, 0o000001);
+    let mut rig = Rig::mapped_of(Unit::fresh().without_cells());
     rig.write(0o177576, 2);
     assert_eq!(rig.read(0o001000), done(0, 0o002000));
     rig.put(0o001402, 0o160003);
     assert_eq!(rig.read(0o001000), done(0, 0o003000));
-    assert_eq!((rig.unit.tags(), rig.unit.counter()), ([0; 8], 0o10));
+    assert_eq!((rig.unit.tags(), rig.unit.counter()), (&[0; 8][..], 0o10));
 }
 
 /// "get the page a map register names as a part of the caller's memory"

@@ -1,14 +1,20 @@
 //! `generate SEED LINES` prints random bench input; `--stats` prints what it reaches, `--bytes` and `--near` print random bytes.
+//! `--cells N` before these steers by a unit with so many cells.
 
 use kt11b_model::generate::{Generator, Noise};
+use kt11b_model::options::cells_option;
+use kt11b_model::Unit;
 use std::io::{BufWriter, Result, Write};
 use std::process::ExitCode;
 
 fn main() -> ExitCode {
     let arguments: Vec<String> = std::env::args().skip(1).collect();
-    let (mode, numbers) = match arguments.split_first() {
+    let Some((cells, rest)) = cells_option(&arguments) else {
+        return usage();
+    };
+    let (mode, numbers) = match rest.split_first() {
         Some((first, rest)) if first.starts_with("--") => (first.as_str(), rest),
-        _ => ("", &arguments[..]),
+        _ => ("", rest),
     };
     let (seed, count) = match numbers {
         [seed, count] => (seed.parse::<u64>(), count.parse::<usize>()),
@@ -17,9 +23,16 @@ fn main() -> ExitCode {
     let (Ok(seed), Ok(count)) = (seed, count) else {
         return usage();
     };
+    let unit = match Unit::with_cells(cells) {
+        Ok(unit) => unit,
+        Err(refusal) => {
+            eprintln!("generate: {}: a unit is made with 8 or 24 cells", refusal.answer);
+            return ExitCode::FAILURE;
+        }
+    };
     let printed = match mode {
-        "" => print_lines(seed, count),
-        "--stats" => print_stats(seed, count),
+        "" => print_lines(Generator::new(seed, unit), count),
+        "--stats" => print_stats(Generator::new(seed, unit), count),
         "--bytes" => print_bytes(Noise::bytes(seed), count),
         "--near" => print_bytes(Noise::near_lines(seed), count),
         _ => return usage(),
@@ -34,12 +47,13 @@ fn main() -> ExitCode {
 }
 
 fn usage() -> ExitCode {
-    eprintln!("usage: generate [--stats] SEED LINES, or generate --bytes SEED BYTES, or generate --near SEED BYTES");
+    eprintln!(
+        "usage: generate [--cells N] [--stats] SEED LINES, or generate --bytes SEED BYTES, or generate --near SEED BYTES"
+    );
     ExitCode::from(2)
 }
 
-fn print_lines(seed: u64, lines: usize) -> Result<()> {
-    let mut generator = Generator::new(seed);
+fn print_lines(mut generator: Generator, lines: usize) -> Result<()> {
     let mut output = BufWriter::new(std::io::stdout().lock());
     for _ in 0..lines {
         output.write_all(&generator.next_line())?;
@@ -48,8 +62,7 @@ fn print_lines(seed: u64, lines: usize) -> Result<()> {
     output.flush()
 }
 
-fn print_stats(seed: u64, lines: usize) -> Result<()> {
-    let mut generator = Generator::new(seed);
+fn print_stats(mut generator: Generator, lines: usize) -> Result<()> {
     for _ in 0..lines {
         generator.next_line();
     }

@@ -12,7 +12,7 @@ mod stats;
 mod watch;
 
 use crate::bench::{parse, Line, Machine};
-use crate::state::Wait;
+use crate::state::{Unit, Wait};
 pub use noise::Noise;
 use plan::Plan;
 use random::Random;
@@ -35,12 +35,13 @@ pub struct Generator {
 }
 
 impl Generator {
-    pub fn new(seed: u64) -> Generator {
+    /// A generator that steers by this fresh unit.
+    pub fn new(seed: u64, unit: Unit) -> Generator {
         let mut random = Random::new(seed);
         let plan = Plan::new(&mut random);
         Generator {
             random,
-            machine: Machine::new(),
+            machine: Machine::of(unit),
             plan,
             queue: VecDeque::new(),
             stats: Stats::default(),

@@ -198,7 +198,7 @@ impl Generator {
     /// A page in play, often one that a cell holds.
     fn mapped_page(&mut self) -> (bool, u16) {
         let tags = self.machine.unit.tags();
-        let mut tag = self.random.pick(&tags);
+        let mut tag = self.random.pick(tags);
         let shared = simple_pages(self.machine.unit.registers()[KTUM]) | 0o200;
         if let Some(&held) = tags.iter().find(|&&tag| u16::from(tag) >= shared) {
             // A page reached by a pointer, so that pointers get stored into as well.

@@ -51,7 +51,8 @@ impl Watch {
             return;
         }
         if !self.before.paged(&request) {
-            let target = Target::at(unpaged_physical(request.address), memory.len());
+            let target =
+                Target::at(unpaged_physical(request.address), memory.len(), self.before.cells());
             self.window = (target == Target::Window).then_some("unpaged");
             return;
         }
@@ -62,7 +63,7 @@ impl Watch {
 
     fn hold(&mut self, memory: &[u8]) {
         let registers = self.before.registers();
-        for tag in self.before.tags().into_iter().filter(|&tag| tag != 0) {
+        for tag in self.before.tags().iter().copied().filter(|&tag| tag != 0) {
             let page = u16::from(tag & 0o177);
             match route(registers[KTUM], registers[KTEM], tag & 0o200 != 0, page) {
                 Route::ExecZero => {}
@@ -158,7 +159,7 @@ impl Watch {
             Operation::Dati | Operation::Datip => "read",
             Operation::Dato | Operation::Datob => "store",
         };
-        let name = match Target::at(physical, 0o200000) {
+        let name = match Target::at(physical, 0o200000, self.before.cells()) {
             Target::Ktmr => "KTMR",
             Target::Ktcs => "KTCS",
             Target::Register(KTUM) => "KTUM",
@@ -246,7 +247,7 @@ fn window(before: &Unit, memory: &[u8], request: &Request) -> Option<&'static st
     let mut probe = *before;
     let user = before.user_mode();
     let outer = probe.entry(memory, user, request.address)?;
-    if Target::at(outer.physical(request.address), memory.len()) != Target::Window {
+    if Target::at(outer.physical(request.address), memory.len(), before.cells()) != Target::Window {
         return None;
     }
     if request.fetch() {
@@ -258,7 +259,7 @@ fn window(before: &Unit, memory: &[u8], request: &Request) -> Option<&'static st
     }
     let address = before.registers()[KTAD];
     let inner = probe.entry(memory, true, address)?;
-    Some(match Target::at(inner.physical(address), memory.len()) {
+    Some(match Target::at(inner.physical(address), memory.len(), before.cells()) {
         Target::Window => "on window",
         Target::Memory(_) => "inner, memory",
         Target::Nothing => "inner, nothing there",

@@ -9,9 +9,19 @@ pub struct Rig {
 }
 
 impl Rig {
-    /// A fresh unit and 65,536 bytes of zero.
+    /// A fresh unit with eight cells and 65,536 bytes of zero.
     pub fn new() -> Rig {
-        Rig { unit: Unit::fresh(), memory: vec![0; 65_536] }
+        Rig::of(Unit::fresh())
+    }
+
+    /// The same with this unit.
+    pub fn of(unit: Unit) -> Rig {
+        Rig { unit, memory: vec![0; 65_536] }
+    }
+
+    /// Maps for both modes, unpaged, and eight cells.
+    pub fn mapped() -> Rig {
+        Rig::mapped_of(Unit::fresh())
     }
 
     /// Maps for both modes, unpaged. KTEM: N 128, M 1. KTUM: N 4, M 5.
@@ -20,8 +30,8 @@ impl Rig {
     /// public (page 4), 4 not resident, 127 the registers, public.
     /// User pages: 0 open and public (page 10o), 1 open and private (page 11o), 2 the registers,
     /// public, 3 read-only and public (page 12o), 4 shared, open and public (page 13o).
-    pub fn mapped() -> Rig {
-        let mut rig = Rig::new();
+    pub fn mapped_of(unit: Unit) -> Rig {
+        let mut rig = Rig::of(unit);
         for (place, word) in [
             (0o001402, 0o160002),
             (0o001404, 0o120003),
@@ -44,7 +54,12 @@ impl Rig {
 
     /// The same, in exec with FCN 2, fetch memory as INIT leaves it.
     pub fn exec() -> Rig {
-        let mut rig = Rig::mapped();
+        Rig::exec_of(Unit::fresh())
+    }
+
+    /// The same with this unit.
+    pub fn exec_of(unit: Unit) -> Rig {
+        let mut rig = Rig::mapped_of(unit);
         rig.unit.init();
         rig.write(0o177576, 2);
         assert_eq!(rig.ktcs(), 0o000002);
@@ -170,9 +185,19 @@ pub fn done(data: u16, physical: u32) -> Reply {
     Reply { answer: 0, data, physical: Some(physical) }
 }
 
-/// The bench program's output.
+/// A fresh unit with so many cells, which are 8 or 24.
+pub fn unit_with(cells: u64) -> Unit {
+    Unit::with_cells(cells).expect("8 and 24 give a unit")
+}
+
+/// The bench program's output with eight cells.
 pub fn bench(input: &[u8]) -> String {
+    bench_of(Unit::fresh(), input)
+}
+
+/// The bench program's output with this unit.
+pub fn bench_of(unit: Unit, input: &[u8]) -> String {
     let mut output = Vec::new();
-    kt11b_model::bench::run(input, &mut output).expect("a vector takes every byte");
+    kt11b_model::bench::run(unit, input, &mut output).expect("a vector takes every byte");
     String::from_utf8(output).expect("the output is plain text")
 }
