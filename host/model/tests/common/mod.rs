@@ -68,7 +68,12 @@ impl Rig {
 
     /// The same, in user mode with FCN 2.
     pub fn user() -> Rig {
-        let mut rig = Rig::mapped();
+        Rig::user_of(Unit::fresh())
+    }
+
+    /// The same with this unit.
+    pub fn user_of(unit: Unit) -> Rig {
+        let mut rig = Rig::mapped_of(unit);
         rig.write(0o177576, 3);
         rig.read(0);
         rig.read(0);
