@@ -1,51 +1,59 @@
-//! The generator's lines: repeatable, followed rightly by the bench program, and steered well.
+//! The generator's lines, for a unit of either count: repeatable, followed rightly by the bench program, and steered well.
 
 mod common;
 
-use common::bench;
+use common::{bench_of, unit_with};
 use kt11b_model::bench::{parse, Line, Machine};
-use kt11b_model::generate::Generator;
-use kt11b_model::Unit;
+use kt11b_model::generate::{
+    Generator, Stats, CELLS_FILLED, COUNTER_ROUND, PAST_ALL_WORDS, UPPER_WORDS,
+};
 
-const LINES: usize = 100_000;
+/// As many as tests/run has of each seed.
+const LINES: usize = 150_000;
+const BOTH: [u64; 2] = [8, 24];
+
+/// What a seed's lines reach with so many cells.
+fn reached(seed: u64, cells: u64, judge: impl Fn(&Stats)) {
+    let mut generator = Generator::new(seed, unit_with(cells));
+    for _ in 0..LINES {
+        generator.next_line();
+    }
+    judge(generator.stats());
+}
 
 #[test]
 fn the_same_seed_gives_the_same_lines() {
-    let mut one = Generator::new(7, Unit::fresh());
-    let mut other = Generator::new(7, Unit::fresh());
-    for _ in 0..5_000 {
-        assert_eq!(one.next_line(), other.next_line());
+    for cells in BOTH {
+        let mut one = Generator::new(7, unit_with(cells));
+        let mut other = Generator::new(7, unit_with(cells));
+        for _ in 0..5_000 {
+            assert_eq!(one.next_line(), other.next_line());
+        }
+        let mut third = Generator::new(8, unit_with(cells));
+        assert!((0..100).any(|_| one.next_line() != third.next_line()));
     }
-    let mut third = Generator::new(8, Unit::fresh());
-    assert!((0..100).any(|_| one.next_line() != third.next_line()));
 }
 
 #[test]
 fn no_line_holds_a_newline_and_each_call_is_answered() {
-    let mut generator = Generator::new(3, Unit::fresh());
-    let mut input = Vec::new();
-    let mut printed = 1;
-    for _ in 0..20_000 {
-        let line = generator.next_line();
-        assert!(!line.contains(&b'\n'));
-        printed += usize::from(!matches!(parse(&line), Some(Line::Word { .. })));
-        input.extend_from_slice(&line);
-        input.push(b'\n');
+    for cells in BOTH {
+        let mut generator = Generator::new(3, unit_with(cells));
+        let mut input = Vec::new();
+        let mut printed = 1;
+        for _ in 0..20_000 {
+            let line = generator.next_line();
+            assert!(!line.contains(&b'\n'));
+            printed += usize::from(!matches!(parse(&line), Some(Line::Word { .. })));
+            input.extend_from_slice(&line);
+            input.push(b'\n');
+        }
+        assert_eq!(bench_of(unit_with(cells), &input).lines().count(), printed);
     }
-    assert_eq!(bench(&input).lines().count(), printed);
 }
 
 #[test]
 fn every_answer_comes_hundreds_of_times() {
-    let mut generator = Generator::new(1, Unit::fresh());
-    for _ in 0..LINES {
-        generator.next_line();
-    }
-    for answer in 0..10 {
-        let count = generator.stats().answered(answer);
-        assert!(count >= 200, "answer {answer} came {count} times");
-    }
-    for path in [
+    let paths = [
         "look-up: hit",
         "look-up: exec page 0",
         "look-up: walk, exec simple",
@@ -59,32 +67,81 @@ fn every_answer_comes_hundreds_of_times() {
         "fetch from a register",
         "fetch at an entry point, public to private",
         "store into a map word of a held page",
-    ] {
-        assert!(generator.stats().counted(path) >= 200, "{path}");
+    ];
+    for cells in BOTH {
+        reached(1, cells, |stats| {
+            for answer in 0..10 {
+                let count = stats.answered(answer);
+                assert!(count >= 200, "{cells} cells: answer {answer} came {count} times");
+            }
+            for path in paths {
+                let count = stats.counted(path);
+                assert!(count >= 200, "{cells} cells: {path}, {count} times");
+            }
+        });
     }
 }
 
-/// What holds of every state: tags differ, an empty cell's word is 0, the counter stays in range.
+/// "The generator must fill all 24 cells and go round often: print how often it did."
+#[test]
+fn all_cells_are_filled_and_the_counter_goes_round_often() {
+    for cells in BOTH {
+        reached(1, cells, |stats| {
+            let [filled, rounds] = [CELLS_FILLED, COUNTER_ROUND].map(|name| stats.counted(name));
+            println!("{cells} cells, {LINES} lines: filled {filled} times, round {rounds} times");
+            assert!(filled >= 300 && rounds >= 700);
+        });
+    }
+}
+
+/// 777640o to 777677o are aimed at unpaged, paged and by the window, and so is 777700o: nowhere with 8 cells, words with 24 but for the last.
+#[test]
+fn the_words_past_the_eighth_cell_are_aimed_at_with_both_counts() {
+    for cells in BOTH {
+        reached(1, cells, |stats| {
+            let nowhere = |words: &str, how| stats.counted(&format!("{words}, {how}: answer 9"));
+            let there = |how| stats.counted(&format!("{UPPER_WORDS}, {how}: answer 0"));
+            for (how, least) in [("unpaged", 300), ("paged", 200), ("by the window", 50)] {
+                let [given, other] = match cells {
+                    8 => [nowhere(UPPER_WORDS, how), there(how)],
+                    _ => [there(how), nowhere(UPPER_WORDS, how)],
+                };
+                assert!(given >= least && other == 0, "{cells} cells, {how}: {given}, {other}");
+            }
+            for (how, least) in [("unpaged", 20), ("paged", 50), ("by the window", 10)] {
+                assert!(nowhere(PAST_ALL_WORDS, how) >= least, "{cells} cells, {how}");
+            }
+        });
+    }
+    reached(1, 24, |stats| assert!(stats.counted("look-up: hit, past the eighth cell") >= 1_000));
+}
+
+/// What holds of every state: tags differ, an empty cell's word is 0, the counter names a cell that is there.
 #[test]
 fn the_cells_stay_well_formed() {
-    let mut generator = Generator::new(11, Unit::fresh());
-    let mut machine = Machine::of(Unit::fresh());
-    for _ in 0..LINES {
-        match parse(&generator.next_line()) {
-            Some(Line::Word { address, value }) => machine.put_word(address, value),
-            Some(Line::Call(call)) => {
-                machine.call(call);
+    for cells in BOTH {
+        let mut generator = Generator::new(11, unit_with(cells));
+        let mut machine = Machine::of(unit_with(cells));
+        for _ in 0..LINES {
+            match parse(&generator.next_line()) {
+                Some(Line::Word { address, value }) => machine.put_word(address, value),
+                Some(Line::Call(call)) => drop(machine.call(call)),
+                None => {}
             }
-            None => {}
+            assert_well_formed(&machine, cells as usize);
         }
-        let tags = machine.unit.tags();
-        let words = machine.unit.words();
-        for cell in 0..8 {
-            let again = tags[cell + 1..].contains(&tags[cell]);
-            assert!(tags[cell] == 0 || !again);
-            assert!(tags[cell] != 0 || words[cell] == 0);
-        }
-        assert!((0o10..=0o17).contains(&machine.unit.counter()));
-        assert_eq!(machine.unit.ktcs() & 0o003700, 0);
     }
+}
+
+fn assert_well_formed(machine: &Machine, cells: usize) {
+    let tags = machine.unit.tags();
+    let words = machine.unit.words();
+    assert_eq!((machine.unit.cells(), tags.len(), words.len()), (cells, cells, cells));
+    for cell in 0..cells {
+        let again = tags[cell + 1..].contains(&tags[cell]);
+        assert!(tags[cell] == 0 || !again);
+        assert!(tags[cell] != 0 || words[cell] == 0);
+    }
+    assert!((0o10..0o10 + cells).contains(&usize::from(machine.unit.counter())));
+    assert_eq!(machine.unit.ktcs() & 0o003700, 0);
 }

@@ -117,11 +117,17 @@ impl Generator {
         usual == Some(page) || self.plan.weak_registers == page
     }
 
+    /// Whether the plan has pages of the present mode to sweep over.
+    pub(super) fn sweeps_here(&self) -> bool {
+        !self.plan.swept.is_empty() && self.plan.swept_by_user == self.machine.unit.user_mode()
+    }
+
     /// An even address in the pages in play.
     pub(super) fn address(&mut self, state: u64) -> u16 {
         let paged = self.paged(state);
         let page = match self.random.below(50) {
             0 => self.random.below(128) as u16,
+            1..=10 if paged && self.sweeps_here() => self.random.pick(&self.plan.swept),
             _ if paged => self.random.pick(&self.plan.pages),
             1 => 0o160 + self.random.below(16) as u16,
             _ => 8 + self.random.below(12) as u16,
@@ -140,12 +146,20 @@ impl Generator {
     }
 
     pub(super) fn register_offset(&mut self) -> u16 {
+        // KTWN, KTMR, KTCS, the eight, and the unit's own scratchpad words.
+        let registers = 11 + self.machine.unit.cells() as u64;
         match self.random.below(30) {
             0 => 2 * self.random.below(256) as u16,
-            1 => self.random.pick(&[0o570, 0o640]),
+            1 => self.random.pick(&[0o570, 0o636, UPPER_OFFSET, 0o676, PAST_ALL_OFFSET]),
             2..=4 => KTWN_OFFSET,
-            _ => KTWN_OFFSET + 2 * self.random.below(19) as u16,
+            5 => self.upper_offset(),
+            _ => KTWN_OFFSET + 2 * self.random.below(registers) as u16,
         }
+    }
+
+    /// From 640 to 700: registers of a unit with 24 cells but for the last, and nowhere for one with 8.
+    pub(super) fn upper_offset(&mut self) -> u16 {
+        UPPER_OFFSET + 2 * self.random.below(17) as u16
     }
 
     /// Odd by byte half the time, odd by word seldom, more often where it costs no sequence.

@@ -27,6 +27,12 @@ pub(super) fn shut(entry: &Entry) -> bool {
 impl Generator {
     /// In FCN 2 only.
     pub(super) fn directed(&mut self) {
+        if !self.plan.swept.is_empty() && self.random.one_in(8) {
+            return self.sweep();
+        }
+        if self.random.one_in(20) {
+            return self.upper_words();
+        }
         match (self.machine.unit.user_mode(), self.random.below(12)) {
             (_, 0..=1) => self.whole_instruction(),
             (_, 2) => self.enter_private(),
@@ -203,13 +209,56 @@ impl Generator {
         self.push_access([DATI, SERVICE, 0], base | KTWN_OFFSET, 0);
     }
 
+    /// Accesses to as many pages as there are cells or some more, each one long enough ago to walk: directly, or by the window for the
+    /// user's pages in exec.
+    fn sweep(&mut self) {
+        let window = match self.register_base(DESTINATION) {
+            _ if self.sweeps_here() => None,
+            Some(base) if self.plan.swept_by_user => Some(base),
+            _ => return self.traps(),
+        };
+        for _ in 0..self.machine.unit.cells() + self.random.below(8) as usize {
+            let page = self.plan.swept[self.swept % self.plan.swept.len()];
+            self.swept += 1;
+            let kind = self.kind();
+            let mut address = (page << 9) | (2 * self.random.below(6) as u16);
+            if let Some(base) = window {
+                self.push_access([DATO, SERVICE, 0], base | KTAD_OFFSET, address);
+                address = base | KTWN_OFFSET;
+            }
+            let data = self.data();
+            self.push_access(kind, address, data);
+        }
+    }
+
+    /// An access to 777640 to 777677 or to 777700: directly, by fetch or by the window.
+    fn upper_words(&mut self) {
+        let Some(base) = self.register_base(DESTINATION) else {
+            return self.traps();
+        };
+        let offset = if self.random.one_in(4) { PAST_ALL_OFFSET } else { self.upper_offset() };
+        let kind = self.kind();
+        let odd = self.maybe_odd(kind[2]);
+        let data = self.data();
+        match (self.plan.user_registers, self.random.below(5)) {
+            (Some(page), 0..=1) => {
+                let inner = (page << 9) | offset | odd;
+                self.push_access([DATO, SERVICE, 0], base | KTAD_OFFSET, inner);
+                self.push_access(kind, base | KTWN_OFFSET, data);
+            }
+            (_, 2) => self.push_access([DATI, FETCH, 0], base | offset, 0),
+            _ => self.push_access(kind, base | offset | odd, data),
+        }
+    }
+
     /// A scratchpad word or KTMR stored into and read, mostly by byte.
     fn scratchpad(&mut self) {
         let state = 1 + self.random.below(4);
         let Some(base) = self.register_base(state) else {
             return self.whole_instruction();
         };
-        let scratchpad = SCRATCHPAD_OFFSET + 2 * self.random.below(8) as u16;
+        let cells = self.machine.unit.cells() as u64;
+        let scratchpad = SCRATCHPAD_OFFSET + 2 * self.random.below(cells) as u16;
         let offset = self.random.pick(&[scratchpad, scratchpad, KTMR_OFFSET]);
         let word = self.plan.entry(&mut self.random);
         match self.random.below(3) {

@@ -17,3 +17,7 @@ pub const KTAD_OFFSET: u16 = 0o610;
 pub const KTUM_OFFSET: u16 = 0o614;
 pub const KTEM_OFFSET: u16 = 0o616;
 pub const SCRATCHPAD_OFFSET: u16 = 0o620;
+/// The first scratchpad word that a unit with 8 cells has not.
+pub const UPPER_OFFSET: u16 = 0o640;
+/// What follows the last scratchpad word of a unit with 24 cells.
+pub const PAST_ALL_OFFSET: u16 = 0o700;

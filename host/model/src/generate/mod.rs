@@ -16,7 +16,7 @@ use crate::state::{Unit, Wait};
 pub use noise::Noise;
 use plan::Plan;
 use random::Random;
-pub use stats::Stats;
+pub use stats::{Stats, CELLS_FILLED, COUNTER_ROUND, PAST_ALL_WORDS, UPPER_WORDS};
 use std::collections::VecDeque;
 use watch::Watch;
 
@@ -30,6 +30,8 @@ pub struct Generator {
     episode: u32,
     /// Lines since the registers were last read out.
     hidden: u32,
+    /// How many pages were swept over, so that a sweep goes on where the last one ended.
+    swept: usize,
     /// Rises with each violation and falls with each other answer; too much of it ends the episode.
     trouble: u32,
 }
@@ -38,7 +40,7 @@ impl Generator {
     /// A generator that steers by this fresh unit.
     pub fn new(seed: u64, unit: Unit) -> Generator {
         let mut random = Random::new(seed);
-        let plan = Plan::new(&mut random);
+        let plan = Plan::new(&mut random, unit.cells());
         Generator {
             random,
             machine: Machine::of(unit),
@@ -47,6 +49,7 @@ impl Generator {
             stats: Stats::default(),
             episode: 0,
             hidden: 0,
+            swept: 0,
             trouble: 0,
         }
     }

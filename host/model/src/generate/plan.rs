@@ -2,6 +2,7 @@
 
 use super::random::Random;
 use crate::maps::{pointed_place, route, Route};
+use crate::state::FEW_CELLS;
 
 /// Physical pages that hold maps; the others in use hold data.
 pub const MAP_PAGES: [u16; 6] = [1, 2, 3, 4, 5, 6];
@@ -10,6 +11,10 @@ const REGISTER_PAGE: u16 = 0o777;
 /// Virtual pages that lead to the maps themselves.
 pub const USER_MAP: u16 = 20;
 pub const EXEC_MAP: u16 = 21;
+
+/// Pages to sweep over in turn, more than there are cells, so that each one walks. No map word of another page in play, and no word that
+/// a pointer mostly leads to, stands at their places.
+const SWEPT_PAGES: std::ops::Range<u16> = 32..64;
 
 /// How often a page is resident, public and write-enabled, in percent.
 #[derive(Clone, Copy)]
@@ -30,11 +35,16 @@ pub struct Plan {
     pub user_registers: Option<u16>,
     /// A page of both modes that is the register page too, with keys of any sort.
     pub weak_registers: u16,
+    /// Pages of one mode, to fill all of many cells by; with few cells the others do that.
+    pub swept: Vec<u16>,
+    /// Whether it is the user's mode.
+    pub swept_by_user: bool,
     keys: Keys,
 }
 
 impl Plan {
-    pub fn new(random: &mut Random) -> Plan {
+    /// A plan for a unit with so many cells.
+    pub fn new(random: &mut Random, cells: usize) -> Plan {
         let ktum = map_register(random);
         let exec_zero_registers = random.one_in(6);
         let ktem = if exec_zero_registers {
@@ -51,6 +61,7 @@ impl Plan {
         let user_page = random.pick(&pages);
         let weak_registers = 6 + random.below(8) as u16;
         pages.push(weak_registers);
+        let many = cells > FEW_CELLS;
         Plan {
             ktum,
             ktem,
@@ -58,6 +69,8 @@ impl Plan {
             weak_registers,
             user_registers: random.percent(75).then_some(user_page),
             keys: keys(random),
+            swept: if many { SWEPT_PAGES.collect() } else { Vec::new() },
+            swept_by_user: many && random.one_in(2),
             pages,
         }
     }
@@ -76,6 +89,10 @@ impl Plan {
                 self.put(random, &mut words, user, page, entry);
             }
         }
+        for &page in &self.swept {
+            let entry = self.swept_entry(random);
+            self.put(random, &mut words, self.swept_by_user, page, entry);
+        }
         for user in [false, true] {
             let weak = random.pick(&[0o120000, 0o140000, 0o100000, 0o060000, 0o160000]);
             self.put(random, &mut words, user, self.weak_registers, weak | REGISTER_PAGE);
@@ -89,6 +106,15 @@ impl Plan {
         words
     }
 
+    /// A map word of a page that is swept over: all keys and a data page, but for one in some forty.
+    fn swept_entry(&self, random: &mut Random) -> u16 {
+        if random.one_in(40) {
+            self.entry(random)
+        } else {
+            0o160000 | data_page(random)
+        }
+    }
+
     /// A map word with the plan's keys.
     pub fn entry(&self, random: &mut Random) -> u16 {
         let page = match random.below(100) {
@@ -96,7 +122,7 @@ impl Plan {
             1..=4 => random.pick(&MAP_PAGES),
             5 => REGISTER_PAGE,
             6..=9 => random.below(128) as u16,
-            _ => 8 + random.below(12) as u16,
+            _ => data_page(random),
         };
         let mut word = page;
         for (bit, chance) in
@@ -134,6 +160,11 @@ impl Plan {
             }
         }
     }
+}
+
+/// A physical page that holds no map.
+fn data_page(random: &mut Random) -> u16 {
+    8 + random.below(12) as u16
 }
 
 fn push_place(to: &mut Vec<(u16, u16)>, place: u32, word: u16) {

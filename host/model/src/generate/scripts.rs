@@ -291,8 +291,13 @@ impl Generator {
             };
         }
         self.hidden = 0;
-        for address in (0o177574..=0o177636).step_by(2) {
-            self.push_access([DATI, 2, 0], address, 0);
+        let past_the_last = SCRATCHPAD_OFFSET + 2 * self.machine.unit.cells() as u16;
+        for offset in (KTMR_OFFSET..past_the_last).step_by(2) {
+            self.push_access([DATI, 2, 0], 0o177000 | offset, 0);
+        }
+        for _ in 0..2 {
+            let offset = self.upper_offset();
+            self.push_access([DATI, 2, 0], 0o177000 | offset, 0);
         }
         let fcn = self.random.pick(&[0, 1, 2, 2, 3]);
         self.push_access([DATO, DESTINATION, 0], 0o177576, fcn);
@@ -304,7 +309,7 @@ impl Generator {
         if self.machine.unit.fcn() != 0 || self.machine.unit.user_mode() || plain {
             self.queue.push_back(b"X".to_vec());
         }
-        self.plan = Plan::new(&mut self.random);
+        self.plan = Plan::new(&mut self.random, self.machine.unit.cells());
         for (place, word) in self.plan.words(&mut self.random) {
             self.push_word(place, word);
         }

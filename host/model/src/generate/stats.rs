@@ -3,6 +3,14 @@
 use std::collections::BTreeMap;
 use std::fmt;
 
+/// An access left every cell of the unit held, where one or more were empty before it.
+pub const CELLS_FILLED: &str = "cells: all of the unit's filled";
+/// The counter stepped from the unit's last cell to 10o.
+pub const COUNTER_ROUND: &str = "cells: the counter went round";
+/// The scratchpad words that a unit has with 24 cells alone, and the word after them.
+pub const UPPER_WORDS: &str = "777640 to 777677";
+pub const PAST_ALL_WORDS: &str = "777700";
+
 #[derive(Default)]
 pub struct Stats {
     counts: BTreeMap<String, u64>,

@@ -1,12 +1,12 @@
 //! What the summary looks at before and after each call.
 
-use super::stats::Stats;
+use super::stats::{Stats, CELLS_FILLED, COUNTER_ROUND, PAST_ALL_WORDS, UPPER_WORDS};
 use crate::access::{unpaged_physical, Operation, Request};
 use crate::bench::Call;
 use crate::instruction::Kind;
 use crate::maps::{pointed_place, route, tag_of, Route};
 use crate::registers::{word_at, Target};
-use crate::state::{Reply, Unit, Wait, DS, ERRORS, KTAD, KTEM, KTUM, SS};
+use crate::state::{Reply, Unit, Wait, DS, ERRORS, FEW_CELLS, KTAD, KTEM, KTUM, SS};
 
 /// A call, the unit before it, and what is foreseen of it.
 pub(super) struct Watch {
@@ -16,6 +16,8 @@ pub(super) struct Watch {
     mode: &'static str,
     look_up: Option<&'static str>,
     window: Option<&'static str>,
+    /// Where step 10 looks for the target, and how the access got there.
+    target: Option<(u32, &'static str)>,
     /// Places of the map words and pointers of the pages in the cells.
     held_places: Vec<u32>,
     held_pointers: Vec<u32>,
@@ -37,6 +39,7 @@ impl Watch {
             mode,
             look_up: None,
             window: None,
+            target: None,
             held_places: Vec::new(),
             held_pointers: Vec::new(),
         };
@@ -51,12 +54,14 @@ impl Watch {
             return;
         }
         if !self.before.paged(&request) {
-            let target =
-                Target::at(unpaged_physical(request.address), memory.len(), self.before.cells());
+            let physical = unpaged_physical(request.address);
+            let target = Target::at(physical, memory.len(), self.before.cells());
             self.window = (target == Target::Window).then_some("unpaged");
+            self.target = Some((physical, "unpaged"));
             return;
         }
         self.hold(memory);
+        self.target = paged_target(&self.before, memory, &request);
         self.look_up = Some(look_up(&self.before, memory, &request));
         self.window = window(&self.before, memory, &request);
     }
@@ -82,6 +87,7 @@ impl Watch {
     /// Counts the call, now that its reply is known.
     pub fn count(&self, stats: &mut Stats, after: &Unit, reply: Reply) {
         stats.answer(self.mode, reply.answer);
+        count_cells(stats, &self.before, after);
         let user = if self.before.user_mode() { "user" } else { "exec" };
         match self.call {
             Call::Access { .. } => self.count_access(stats, after, reply),
@@ -104,6 +110,12 @@ impl Watch {
         }
         if let Some(window) = self.window {
             stats.count(format!("window {window}: answer {}", reply.answer));
+        }
+        if let Some((0o777640..=0o777677, how)) = self.target {
+            stats.count(format!("{UPPER_WORDS}, {how}: answer {}", reply.answer));
+        }
+        if let Some((0o777700..=0o777701, how)) = self.target {
+            stats.count(format!("{PAST_ALL_WORDS}, {how}: answer {}", reply.answer));
         }
         if reply.answer == 0 && !self.mode.starts_with("FCN") {
             stats.count(sequence_name(self.before.wait()));
@@ -182,6 +194,17 @@ impl Watch {
     }
 }
 
+/// How often the cells got full, and the counter went round.
+fn count_cells(stats: &mut Stats, before: &Unit, after: &Unit) {
+    let full = |unit: &Unit| !unit.tags().contains(&0);
+    stats.count_if(full(after) && !full(before), CELLS_FILLED);
+    // The counter falls in two ways only, and what empties all cells leaves none held.
+    let fell = after.counter() < before.counter();
+    let held = after.tags().iter().any(|&tag| tag != 0);
+    stats.count_if(fell && held, COUNTER_ROUND);
+    stats.count_if(!held && before.tags().iter().any(|&tag| tag != 0), "cells: the last emptied");
+}
+
 fn sequence_name(wait: Wait) -> &'static str {
     match wait {
         Wait::None => "START: first read",
@@ -223,8 +246,10 @@ fn look_up(before: &Unit, memory: &[u8], request: &Request) -> &'static str {
         return "none, odd word";
     }
     let tag = tag_of(user, request.address);
-    if tag != 0 && before.hit(tag).is_some() {
-        return "hit";
+    match before.hit(tag) {
+        Some(0..FEW_CELLS) if tag != 0 => return "hit",
+        Some(_) if tag != 0 => return "hit, past the eighth cell",
+        _ => {}
     }
     let mut probe = *before;
     let registers = before.registers();
@@ -240,6 +265,24 @@ fn look_up(before: &Unit, memory: &[u8], request: &Request) -> &'static str {
         }
         _ => "walk timed out",
     }
+}
+
+/// Where a paged access looks for its target, if nothing refuses it before.
+fn paged_target(before: &Unit, memory: &[u8], request: &Request) -> Option<(u32, &'static str)> {
+    let mut probe = *before;
+    let user = before.user_mode();
+    let outer = probe.reach(memory, request, user, request.address).ok()?;
+    if probe.breaks_privacy(request, &outer) {
+        return None;
+    }
+    let physical = outer.physical(request.address);
+    let target = Target::at(physical, memory.len(), before.cells());
+    if target != Target::Window || request.fetch() {
+        return Some((physical, "paged"));
+    }
+    let address = before.registers()[KTAD];
+    let inner = probe.reach(memory, request, true, address).ok()?;
+    Some((inner.physical(address), "by the window"))
 }
 
 /// Where a paged access to the window gets, or none if it is not one.
