@@ -93,6 +93,17 @@ impl Machine {
         self.memory[place..place + 2].copy_from_slice(&value.to_le_bytes());
     }
 
+    /// Does what a line says, and gives the reply of a call.
+    pub fn follow(&mut self, line: &[u8]) -> Option<Reply> {
+        match parse(line)? {
+            Line::Word { address, value } => {
+                self.put_word(address, value);
+                None
+            }
+            Line::Call(call) => Some(self.call(call)),
+        }
+    }
+
     pub fn call(&mut self, call: Call) -> Reply {
         match call {
             Call::Access { operation, state, width, address, data } => {

@@ -111,7 +111,7 @@ impl Unit {
     }
 
     /// "A fresh unit is all zero, then INIT."
-    fn fresh_of(cells: usize) -> Unit {
+    pub(crate) fn fresh_of(cells: usize) -> Unit {
         let mut unit = Unit {
             ktcs: 0,
             registers: [0; 8],

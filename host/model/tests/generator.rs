@@ -123,11 +123,7 @@ fn the_cells_stay_well_formed() {
         let mut generator = Generator::new(11, unit_with(cells));
         let mut machine = Machine::of(unit_with(cells));
         for _ in 0..LINES {
-            match parse(&generator.next_line()) {
-                Some(Line::Word { address, value }) => machine.put_word(address, value),
-                Some(Line::Call(call)) => drop(machine.call(call)),
-                None => {}
-            }
+            machine.follow(&generator.next_line());
             assert_well_formed(&machine, cells as usize);
         }
     }

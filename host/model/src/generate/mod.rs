@@ -2,6 +2,7 @@
 
 mod actions;
 mod directed;
+mod few_walks;
 mod kinds;
 mod lines;
 mod noise;
@@ -13,6 +14,7 @@ mod watch;
 
 use crate::bench::{parse, Line, Machine};
 use crate::state::{Unit, Wait};
+pub use few_walks::FewWalks;
 pub use noise::Noise;
 use plan::Plan;
 use random::Random;
@@ -60,13 +62,18 @@ impl Generator {
 
     /// The next line, without its newline.
     pub fn next_line(&mut self) -> Vec<u8> {
+        let line = self.chosen();
+        self.follow(&line);
+        line
+    }
+
+    /// The line that is to come next, not yet followed.
+    fn chosen(&mut self) -> Vec<u8> {
         self.drop_stale_lines();
         while self.queue.is_empty() {
             self.choose();
         }
-        let line = self.queue.pop_front().unwrap_or_default();
-        self.follow(&line);
-        line
+        self.queue.pop_front().unwrap_or_default()
     }
 
     /// A script cut short by a violation is mostly given up; now and then it goes on and is refused.
