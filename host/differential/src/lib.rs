@@ -5,6 +5,6 @@ mod random;
 mod steering;
 mod words;
 
-pub use pair::Pair;
+pub use pair::{Counts, Pair, BUFFER};
 pub use random::Random;
 pub use steering::{Lengths, Steering};

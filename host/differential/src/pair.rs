@@ -3,9 +3,15 @@
 use crate::words::words_of;
 use kt11b::{NumberedAccess, Register};
 use kt11b_model::bench::Call;
+use kt11b_model::generate::{filled_all_cells, went_round};
 
 /// More than the longest memory, so that lengths that are too large can be lent too.
 pub const BUFFER: usize = kt11b::LONGEST_MEMORY + 4096;
+
+const MOST_CELLS: usize = kt11b_model::MANY_CELLS;
+
+/// "Cell i (from 0) is the one that the counter names at 10o + i".
+const FIRST_CELL: u8 = 0o10;
 
 /// The registers that the model gives as an array, in its order.
 const EIGHT: [Register; 8] = [
@@ -19,28 +25,51 @@ const EIGHT: [Register; 8] = [
     Register::Ktem,
 ];
 
-/// A unit of the library and one of the model, each with a memory of its own.
+/// How often something came in a run.
+#[derive(Clone, Copy, Default, Debug)]
+pub struct Counts {
+    /// Each answer.
+    pub answers: [u64; 10],
+    /// A call left every cell of the unit held, where one or more were empty before it.
+    pub filled: u64,
+    /// The counter stepped from the unit's last cell to 10o.
+    pub rounds: u64,
+}
+
+impl Counts {
+    /// Adds those of another run.
+    pub fn add(&mut self, other: Counts) {
+        for (all, one) in self.answers.iter_mut().zip(other.answers) {
+            *all += one;
+        }
+        self.filled += other.filled;
+        self.rounds += other.rounds;
+    }
+}
+
+/// A unit of the library and one of the model, with as many cells, each with a memory of its own.
 pub struct Pair {
     library: kt11b::Unit,
     library_memory: Vec<u8>,
     model: kt11b_model::Unit,
     model_memory: Vec<u8>,
-    answers: [u64; 10],
+    counts: Counts,
 }
 
 impl Pair {
-    /// Two fresh units over the same memory.
-    pub fn new(memory: Vec<u8>) -> Pair {
+    /// Two fresh units with so many cells, 8 or 24, over the same memory.
+    pub fn new(cells: u64, memory: Vec<u8>) -> Pair {
         assert_eq!(memory.len(), BUFFER);
         let pair = Pair {
-            library: kt11b::Unit::fresh(),
+            library: kt11b::Unit::with_cells(cells).expect("the library makes the unit"),
             library_memory: memory.clone(),
-            model: kt11b_model::Unit::fresh(),
+            model: kt11b_model::Unit::with_cells(cells).expect("the model makes the unit"),
             model_memory: memory,
-            answers: [0; 10],
+            counts: Counts::default(),
         };
         pair.compare_words(Call::Init);
         pair.compare_readings();
+        pair.compare_whole();
         pair
     }
 
@@ -49,9 +78,19 @@ impl Pair {
         &self.model
     }
 
-    /// How often each answer was given.
-    pub fn answers(&self) -> [u64; 10] {
-        self.answers
+    /// The library's unit, to be held against another pair's.
+    pub fn library(&self) -> &kt11b::Unit {
+        &self.library
+    }
+
+    /// The library's memory.
+    pub fn library_memory(&self) -> &[u8] {
+        &self.library_memory
+    }
+
+    /// What was counted so far.
+    pub fn counts(&self) -> Counts {
+        self.counts
     }
 
     /// Stores a word in both memories behind the units' backs.
@@ -61,19 +100,26 @@ impl Pair {
         }
     }
 
-    /// Makes one call of both, lending as much memory as that, and compares reply, state and the bytes about the address.
-    pub fn call(&mut self, call: Call, length: usize) {
+    /// Makes one call of both, lending as much memory as that, and compares reply, state and the bytes about the address. Gives the
+    /// reply.
+    pub fn call(&mut self, call: Call, length: usize) -> kt11b::Reply {
+        let before = self.model;
         let wanted = self.call_model(call, length);
         let given = self.call_library(call, length);
         let parts = (given.answer_number(), given.data(), given.physical());
         assert_eq!(parts, (wanted.answer, wanted.data, wanted.physical), "{call:?}, L={length:o}");
-        self.answers[usize::from(wanted.answer)] += 1;
+        self.counts.answers[usize::from(wanted.answer)] += 1;
+        self.counts.filled += u64::from(filled_all_cells(&before, &self.model));
+        self.counts.rounds += u64::from(went_round(&before, &self.model));
         self.compare_words(call);
         self.compare_readings();
+        // The cell that a walk of this call filled first.
+        self.compare_cell(usize::from(before.counter() - FIRST_CELL));
         let place = wanted.physical.unwrap_or(0) as usize;
         let first = place.saturating_sub(8).min(BUFFER);
         let near = first..(place + 8).clamp(first, BUFFER);
         assert_eq!(self.library_memory[near.clone()], self.model_memory[near], "{call:?}");
+        given
     }
 
     fn call_model(&mut self, call: Call, length: usize) -> kt11b_model::Reply {
@@ -109,7 +155,7 @@ impl Pair {
         }
     }
 
-    /// What a front panel reads: every register, cell, the counter and the wait.
+    /// What a front panel reads: every register, the counter, the number of cells and the wait.
     fn compare_readings(&self) {
         let read = |register| self.library.register(register);
         let counter = u16::from(self.model.counter());
@@ -117,17 +163,24 @@ impl Pair {
         assert_eq!(read(Register::Ktmr), Some(counter * 256));
         assert_eq!(self.library.counter(), Some(counter));
         assert_eq!(EIGHT.map(read), self.model.registers().map(Some));
-        let cells = [0, 1, 2, 3, 4, 5, 6, 7];
-        let tags = self.model.tags().map(|tag| Some(u16::from(tag)));
-        assert_eq!(cells.map(|cell| self.library.cell_tag(cell)), tags);
-        let words = self.model.words().map(Some);
-        assert_eq!(cells.map(|cell| self.library.cell_word(cell)), words);
+        assert_eq!(self.library.cells(), Some(self.model.cells()));
         let wait = self.library.wait().map(|wait| wait as u8);
         assert_eq!(wait, Some(self.model.wait_number()));
     }
 
-    /// Compares every byte of the two memories.
-    pub fn compare_memory(&self) {
+    /// A cell's tag and word: there below the unit's own number of cells, and none at or beyond it.
+    fn compare_cell(&self, cell: usize) {
+        let tag = self.model.tags().get(cell).copied().map(u16::from);
+        let word = self.model.words().get(cell).copied();
+        let given = (self.library.cell_tag(cell), self.library.cell_word(cell));
+        assert_eq!(given, (tag, word), "cell {cell}");
+    }
+
+    /// Compares every cell and every byte of the two memories, which would be dear after each call.
+    pub fn compare_whole(&self) {
+        for cell in 0..=MOST_CELLS {
+            self.compare_cell(cell);
+        }
         assert!(self.library_memory == self.model_memory, "the memories differ");
     }
 }

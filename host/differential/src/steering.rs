@@ -5,7 +5,7 @@ use crate::random::Random;
 use kt11b::LONGEST_MEMORY;
 use kt11b_model::bench::{parse, Call, Line, MEMORY_BYTES};
 use kt11b_model::generate::Generator;
-use kt11b_model::Wait;
+use kt11b_model::{Unit, Wait};
 
 /// How a run lends memory.
 #[derive(Clone, Copy, PartialEq, Eq, Debug)]
@@ -25,14 +25,15 @@ pub struct Steering {
 }
 
 impl Steering {
-    /// The steering for a seed, and the memory that the run begins with.
-    pub fn new(seed: u64, lengths: Lengths) -> (Steering, Vec<u8>) {
+    /// The steering for a seed and a number of cells, 8 or 24, and the memory that the run begins with.
+    pub fn new(seed: u64, cells: u64, lengths: Lengths) -> (Steering, Vec<u8>) {
         let mut random = Random::new(seed ^ 0x6b74_3131_6221);
         let length = match lengths {
             Lengths::Bench => MEMORY_BYTES,
             Lengths::Varied => usual_length(&mut random),
         };
-        let generator = Generator::new(seed);
+        let unit = Unit::with_cells(cells).expect("the model makes the unit");
+        let generator = Generator::new(seed, unit);
         let memory = first_memory(&mut random, lengths);
         (Steering { random, generator, lengths, length }, memory)
     }

@@ -1,41 +1,54 @@
-//! Some hundred thousand steered random calls on the library and on the model: no difference in any reply, state or byte.
+//! Some hundred thousand steered random calls on the library and on the model, with 8 cells and with 24: no difference in any reply,
+//! state or byte.
 
-use kt11b_differential::{Lengths, Pair, Steering};
+use kt11b_differential::{Counts, Lengths, Pair, Steering};
 
-/// Whole memories are compared after so many steps, and at the end of a run.
+/// All cells and whole memories are compared after so many steps, and at the end of a run.
 const COMPARED_EVERY: usize = 250;
 
-/// Runs of steps from fresh units, with seeds that follow one another; gives how often each answer came.
-fn runs(first_seed: u64, count: u64, steps: usize, lengths: Lengths) -> [u64; 10] {
-    let mut answers = [0; 10];
-    for seed in first_seed..first_seed + count {
-        println!("seed {seed}");
-        let (mut steering, memory) = Steering::new(seed, lengths);
-        let mut pair = Pair::new(memory);
-        for step in 1..=steps {
-            steering.step(&mut pair);
-            if step % COMPARED_EVERY == 0 {
-                pair.compare_memory();
-            }
-        }
-        pair.compare_memory();
-        for (all, one) in answers.iter_mut().zip(pair.answers()) {
-            *all += one;
+/// A run of steps from fresh units with so many cells; gives what came in it.
+fn run(seed: u64, cells: u64, steps: usize, lengths: Lengths) -> Counts {
+    println!("{cells} cells, seed {seed}");
+    let (mut steering, memory) = Steering::new(seed, cells, lengths);
+    let mut pair = Pair::new(cells, memory);
+    for step in 1..=steps {
+        steering.step(&mut pair);
+        if step % COMPARED_EVERY == 0 {
+            pair.compare_whole();
         }
     }
-    println!("{lengths:?}: {} calls, by answer {answers:?}", answers.iter().sum::<u64>());
-    answers
+    pair.compare_whole();
+    pair.counts()
 }
 
+/// Such runs with seeds that follow one another; gives what came in all of them.
+fn runs(seeds: std::ops::Range<u64>, cells: u64, steps: usize, lengths: Lengths) -> Counts {
+    let mut all = Counts::default();
+    for seed in seeds {
+        all.add(run(seed, cells, steps, lengths));
+    }
+    let Counts { answers, filled, rounds } = all;
+    let calls = answers.iter().sum::<u64>();
+    println!("{cells} cells, {lengths:?}: {calls} calls, by answer {answers:?}");
+    println!("{cells} cells, {lengths:?}: all filled {filled} times, round {rounds} times");
+    assert!(answers.iter().all(|&count| count >= 1_000), "{cells} cells: {answers:?}");
+    all
+}
+
+/// "The generator must fill all 24 cells and go round often: print how often it did."
 #[test]
 fn with_the_memory_of_the_bench_program() {
-    let answers = runs(1, 80, 5_000, Lengths::Bench);
-    assert!(answers.iter().all(|&count| count >= 1_000), "{answers:?}");
+    for cells in [8, 24] {
+        let Counts { filled, rounds, .. } = runs(1..121, cells, 5_000, Lengths::Bench);
+        assert!(filled >= 500 && rounds >= 1_000, "{filled}, {rounds}");
+    }
 }
 
 /// "its length L is even, at most 253,952 (760000o)"; other lengths are answered 1.
 #[test]
 fn with_lengths_of_every_kind() {
-    let answers = runs(1_000, 500, 1_000, Lengths::Varied);
-    assert!(answers.iter().all(|&count| count >= 1_000), "{answers:?}");
+    for cells in [8, 24] {
+        let Counts { filled, rounds, .. } = runs(1_000..1_500, cells, 1_000, Lengths::Varied);
+        assert!(filled >= 50 && rounds >= 500, "{filled}, {rounds}");
+    }
 }

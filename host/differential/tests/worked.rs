@@ -1,4 +1,4 @@
-//! The inputs of tests/numbers, whose outputs were worked out by hand, through the library.
+//! The inputs of tests/numbers, whose outputs were worked out by hand, through the library with 8 cells and with 24.
 
 use kt11b::{NumberedAccess, Register, Reply, Unit};
 use kt11b_model::bench::{parse, Call, Line, HEADER, MEMORY_BYTES};
@@ -36,9 +36,9 @@ impl Machine {
     }
 }
 
-/// What the bench program prints for an input.
-fn printed(input: &[u8]) -> String {
-    let mut machine = Machine { unit: Unit::fresh(), memory: vec![0; MEMORY_BYTES] };
+/// What the bench program prints for an input, with this fresh unit.
+fn printed(unit: Unit, input: &[u8]) -> String {
+    let mut machine = Machine { unit, memory: vec![0; MEMORY_BYTES] };
     let mut output = String::from_utf8_lossy(HEADER).into_owned();
     let mut calls = 0;
     let whole = input.strip_suffix(b"\n").unwrap_or(input);
@@ -62,18 +62,35 @@ fn printed(input: &[u8]) -> String {
     output
 }
 
-#[test]
-fn every_worked_input() {
+/// The output of an input. One that prints otherwise with 24 cells has a file of its own for them.
+fn output_of(input: &Path, cells: u64) -> String {
+    let own = input.with_extension(format!("{cells}.out"));
+    let output = if own.exists() { own } else { input.with_extension("out") };
+    std::fs::read_to_string(output).expect("its output")
+}
+
+fn every_worked_input(cells: u64) {
     let folder = Path::new(env!("CARGO_MANIFEST_DIR")).join("../../tests/numbers");
     let mut tried = 0;
     for file in std::fs::read_dir(folder).expect("tests/numbers is there") {
         let input = file.expect("a folder that can be read").path();
         if input.extension().is_some_and(|extension| extension == "in") {
-            let given = printed(&std::fs::read(&input).expect("an input"));
-            let wanted = std::fs::read_to_string(input.with_extension("out")).expect("its output");
-            assert!(given == wanted, "{} prints otherwise", input.display());
+            let unit = Unit::with_cells(cells).expect("8 and 24 give a unit");
+            let given = printed(unit, &std::fs::read(&input).expect("an input"));
+            let wanted = output_of(&input, cells);
+            assert!(given == wanted, "{} prints otherwise with {cells} cells", input.display());
             tried += 1;
         }
     }
     assert!(tried >= 10, "only {tried} inputs found");
+}
+
+#[test]
+fn every_worked_input_with_8_cells() {
+    every_worked_input(8);
+}
+
+#[test]
+fn every_worked_input_with_24_cells() {
+    every_worked_input(24);
 }

@@ -18,7 +18,8 @@ pub use few_walks::FewWalks;
 pub use noise::Noise;
 use plan::Plan;
 use random::Random;
-pub use stats::{Stats, CELLS_FILLED, COUNTER_ROUND, PAST_ALL_WORDS, UPPER_WORDS};
+pub use stats::{filled_all_cells, went_round, Stats};
+pub use stats::{CELLS_FILLED, COUNTER_ROUND, PAST_ALL_WORDS, UPPER_WORDS};
 use std::collections::VecDeque;
 use watch::Watch;
 

@@ -1,15 +1,27 @@
 //! Counts of what a generated input reaches, and their table.
 
+use crate::state::Unit;
 use std::collections::BTreeMap;
 use std::fmt;
 
-/// An access left every cell of the unit held, where one or more were empty before it.
+/// What `filled_all_cells` and `went_round` tell.
 pub const CELLS_FILLED: &str = "cells: all of the unit's filled";
-/// The counter stepped from the unit's last cell to 10o.
 pub const COUNTER_ROUND: &str = "cells: the counter went round";
 /// The scratchpad words that a unit has with 24 cells alone, and the word after them.
 pub const UPPER_WORDS: &str = "777640 to 777677";
 pub const PAST_ALL_WORDS: &str = "777700";
+
+/// Whether a call left every cell of the unit held, where one or more were empty before it.
+pub fn filled_all_cells(before: &Unit, after: &Unit) -> bool {
+    let full = |unit: &Unit| !unit.tags().contains(&0);
+    full(after) && !full(before)
+}
+
+/// Whether a call's walk stepped the counter from the unit's last cell to 10o. The counter falls in one other way, when all cells are emptied,
+/// and then none is held.
+pub fn went_round(before: &Unit, after: &Unit) -> bool {
+    after.counter() < before.counter() && after.tags().iter().any(|&tag| tag != 0)
+}
 
 #[derive(Default)]
 pub struct Stats {

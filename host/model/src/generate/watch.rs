@@ -1,6 +1,7 @@
 //! What the summary looks at before and after each call.
 
-use super::stats::{Stats, CELLS_FILLED, COUNTER_ROUND, PAST_ALL_WORDS, UPPER_WORDS};
+use super::stats::{filled_all_cells, went_round, Stats};
+use super::stats::{CELLS_FILLED, COUNTER_ROUND, PAST_ALL_WORDS, UPPER_WORDS};
 use crate::access::{unpaged_physical, Operation, Request};
 use crate::bench::Call;
 use crate::instruction::Kind;
@@ -87,7 +88,8 @@ impl Watch {
     /// Counts the call, now that its reply is known.
     pub fn count(&self, stats: &mut Stats, after: &Unit, reply: Reply) {
         stats.answer(self.mode, reply.answer);
-        count_cells(stats, &self.before, after);
+        stats.count_if(filled_all_cells(&self.before, after), CELLS_FILLED);
+        stats.count_if(went_round(&self.before, after), COUNTER_ROUND);
         let user = if self.before.user_mode() { "user" } else { "exec" };
         match self.call {
             Call::Access { .. } => self.count_access(stats, after, reply),
@@ -192,17 +194,6 @@ impl Watch {
         stats.count_if(self.held_places.contains(&place), "store into a map word of a held page");
         stats.count_if(self.held_pointers.contains(&place), "store into a pointer of a held page");
     }
-}
-
-/// How often the cells got full, and the counter went round.
-fn count_cells(stats: &mut Stats, before: &Unit, after: &Unit) {
-    let full = |unit: &Unit| !unit.tags().contains(&0);
-    stats.count_if(full(after) && !full(before), CELLS_FILLED);
-    // The counter falls in two ways only, and what empties all cells leaves none held.
-    let fell = after.counter() < before.counter();
-    let held = after.tags().iter().any(|&tag| tag != 0);
-    stats.count_if(fell && held, COUNTER_ROUND);
-    stats.count_if(!held && before.tags().iter().any(|&tag| tag != 0), "cells: the last emptied");
 }
 
 fn sequence_name(wait: Wait) -> &'static str {
