@@ -1,7 +1,7 @@
-//! Times the static library beside the plain model, on one stream of accesses.
+//! Times the static library beside the plain model, with 8 cells and with 24, on one stream of accesses.
 //!
 //! `kt11b-bench ACCESSES` prints times and ratios. `kt11b-bench count UNIT ACCESSES` makes that many accesses of one unit
-//! (library, model, walk or nothing) and prints nothing, for callgrind to count.
+//! (library, model, walk, library24, model24 or nothing) and prints nothing, for callgrind to count.
 
 mod digest;
 mod stream;
@@ -61,17 +61,18 @@ fn main() -> ExitCode {
 }
 
 fn usage() -> ExitCode {
-    eprintln!(
-        "usage: kt11b-bench ACCESSES, or kt11b-bench count library|model|walk|nothing ACCESSES"
-    );
+    eprintln!("usage: kt11b-bench ACCESSES, or kt11b-bench count UNIT ACCESSES");
+    eprintln!("units: library, model, walk, library24, model24, nothing");
     ExitCode::from(2)
 }
 
 fn count(unit: &str, accesses: usize) -> ExitCode {
     match unit {
-        "library" => count_one(Library(kt11b::Unit::fresh()), accesses),
-        "model" => count_one(Model(kt11b_model::Unit::fresh()), accesses),
-        "walk" => count_one(Model(kt11b_model::Unit::fresh().without_cells()), accesses),
+        "library" => count_one(Library::with_cells(8), accesses),
+        "model" => count_one(Model::with_cells(8), accesses),
+        "walk" => count_one(Model::without_cells(), accesses),
+        "library24" => count_one(Library::with_cells(24), accesses),
+        "model24" => count_one(Model::with_cells(24), accesses),
         "nothing" => count_one(Nothing, accesses),
         _ => usage(),
     }
@@ -84,35 +85,81 @@ fn count_one(unit: impl Paging, accesses: usize) -> ExitCode {
     ExitCode::SUCCESS
 }
 
+/// All units, started.
+struct Units {
+    library: Timed<Library>,
+    model: Timed<Model>,
+    walk: Timed<Model>,
+    library_24: Timed<Library>,
+    model_24: Timed<Model>,
+    nothing: Timed<Nothing>,
+}
+
+impl Units {
+    fn new() -> Units {
+        Units {
+            library: Timed::new(Library::with_cells(8)),
+            model: Timed::new(Model::with_cells(8)),
+            walk: Timed::new(Model::without_cells()),
+            library_24: Timed::new(Library::with_cells(24)),
+            model_24: Timed::new(Model::with_cells(24)),
+            nothing: Timed::new(Nothing),
+        }
+    }
+
+    /// One round of each, in turn.
+    fn round(&mut self, stream: &[Access], accesses: usize) {
+        self.library.round(stream, accesses);
+        self.model.round(stream, accesses);
+        self.walk.round(stream, accesses);
+        self.library_24.round(stream, accesses);
+        self.model_24.round(stream, accesses);
+        self.nothing.round(stream, accesses);
+    }
+
+    fn show(&self) {
+        let base = self.model.best;
+        println!(
+            "{:<36} {:>8} {:>8} {:>10} {:>9}",
+            "", "ns best", "ns mean", "million/s", "time/(b)"
+        );
+        self.library.show("(a) library, 8 cells", base);
+        self.model.show("(b) plain model, 8 cells", base);
+        self.walk.show("(c) plain model, the walk alone", base);
+        self.library_24.show("(d) library, 24 cells", base);
+        self.model_24.show("(e) plain model, 24 cells", base);
+        self.nothing.show("    the loop around them", base);
+    }
+
+    /// What each left, but for the loop alone: its replies and its memory.
+    fn outcomes(&self) -> [(Total, &[u8]); 5] {
+        [
+            (self.model.total, &self.model.memory),
+            (self.library.total, &self.library.memory),
+            (self.walk.total, &self.walk.memory),
+            (self.library_24.total, &self.library_24.memory),
+            (self.model_24.total, &self.model_24.memory),
+        ]
+    }
+}
+
 fn time_all(accesses: usize) -> ExitCode {
     let stream = stream::stream();
     describe(&stream, accesses);
-    let mut library = Timed::new(Library(kt11b::Unit::fresh()));
-    let mut model = Timed::new(Model(kt11b_model::Unit::fresh()));
-    let mut walk = Timed::new(Model(kt11b_model::Unit::fresh().without_cells()));
-    let mut nothing = Timed::new(Nothing);
+    let mut units = Units::new();
     for _ in 0..ROUNDS {
-        library.round(&stream, accesses / ROUNDS);
-        model.round(&stream, accesses / ROUNDS);
-        walk.round(&stream, accesses / ROUNDS);
-        nothing.round(&stream, accesses / ROUNDS);
+        units.round(&stream, accesses / ROUNDS);
     }
-    println!("{:<36} {:>8} {:>8} {:>10} {:>9}", "", "ns best", "ns mean", "million/s", "time/(b)");
-    library.show("(a) library through the C boundary", model.best);
-    model.show("(b) plain model, in place", model.best);
-    walk.show("(c) plain model, the walk alone", model.best);
-    nothing.show("    the loop around them", model.best);
-    let same = library.total == model.total
-        && walk.total == model.total
-        && library.memory == model.memory
-        && walk.memory == model.memory;
-    if same && model.total.refused == 0 {
+    units.show();
+    let outcomes = units.outcomes();
+    let same = outcomes.iter().all(|outcome| *outcome == outcomes[0]);
+    if same && units.model.total.refused == 0 {
         println!(
-            "All three gave the same replies in the same order and left the same memory; no access was refused."
+            "All five gave the same replies in the same order and left the same memory; no access was refused."
         );
         return ExitCode::SUCCESS;
     }
-    println!("The units DIFFER: {:?} {:?} {:?}", library.total, model.total, walk.total);
+    println!("The units DIFFER: {:?}", outcomes.map(|(total, _)| total));
     ExitCode::FAILURE
 }
 
@@ -122,7 +169,19 @@ fn describe(stream: &[Access], accesses: usize) {
         let count = stream.iter().filter(|access| wanted(access)).count();
         100.0 * count as f64 / stream.len() as f64
     };
-    let mut model = Model(kt11b_model::Unit::fresh());
+    println!(
+        "{accesses} accesses in {ROUNDS} rounds: {:.0}% fetch, {:.0}% read, {:.0}% store; {:.1}% walk with 8 cells, {:.2}% with 24.",
+        share(|access| access.state == 0),
+        share(|access| access.state != 0 && access.operation <= 1),
+        share(|access| access.operation >= 2),
+        walking_share(stream, 8),
+        walking_share(stream, 24),
+    );
+}
+
+/// How many accesses of a hundred walk in a unit with so many cells, from its start.
+fn walking_share(stream: &[Access], cells: u64) -> f64 {
+    let mut model = Model::with_cells(cells);
     let mut memory = stream::memory();
     model.start(&mut memory);
     let mut walks = 0;
@@ -131,11 +190,5 @@ fn describe(stream: &[Access], accesses: usize) {
         model.access(&mut memory, access);
         walks += usize::from(model.0.counter() != before);
     }
-    println!(
-        "{accesses} accesses in {ROUNDS} rounds: {:.0}% fetch, {:.0}% read, {:.0}% store; {:.1}% walk.",
-        share(|access| access.state == 0),
-        share(|access| access.state != 0 && access.operation <= 1),
-        share(|access| access.operation >= 2),
-        100.0 * walks as f64 / stream.len() as f64,
-    );
+    100.0 * walks as f64 / stream.len() as f64
 }

@@ -26,8 +26,15 @@ pub trait Paging {
     }
 }
 
-/// (a) The static library, called as C would call it.
-pub struct Library(pub kt11b::Unit);
+/// (a) and (d) The static library, called as C would call it.
+pub struct Library(kt11b::Unit);
+
+impl Library {
+    /// A fresh unit with 8 or 24 cells.
+    pub fn with_cells(cells: u64) -> Library {
+        Library(kt11b::Unit::with_cells(cells).expect("8 and 24 give a unit"))
+    }
+}
 
 impl Paging for Library {
     #[inline]
@@ -40,8 +47,20 @@ impl Paging for Library {
     }
 }
 
-/// (b) and (c) The plain model, with its cells or without.
+/// (b), (c) and (e) The plain model, with its cells or without.
 pub struct Model(pub kt11b_model::Unit);
+
+impl Model {
+    /// A fresh unit with 8 or 24 cells.
+    pub fn with_cells(cells: u64) -> Model {
+        Model(kt11b_model::Unit::with_cells(cells).expect("8 and 24 give a unit"))
+    }
+
+    /// A fresh unit that walks each time. No access of the stream comes to a scratchpad word, by which number of cells would show.
+    pub fn without_cells() -> Model {
+        Model(kt11b_model::Unit::fresh().without_cells())
+    }
+}
 
 impl Paging for Model {
     #[inline]
