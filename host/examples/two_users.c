@@ -218,7 +218,7 @@ static void make_resident(struct user *user)
 
 static void show_core_and_cells(void)
 {
-    unsigned long cell;
+    unsigned long cell, cells = KT11B_REPLY_DATA(kt11b_cells(unit));
 
     puts("\nIn core now, and in the cells:");
     printf("core 021010 holds %06o\n", word_at(021010));
@@ -226,7 +226,7 @@ static void show_core_and_cells(void)
     printf("core 022004 holds %06o\n", word_at(022004));
     printf("counter %o, waiting for %d\n", (unsigned) KT11B_REPLY_DATA(kt11b_counter(unit)),
         (int) KT11B_REPLY_DATA(kt11b_wait(unit)));
-    for (cell = 0; cell < KT11B_CELLS; cell++) {
+    for (cell = 0; cell < cells; cell++) {
         unsigned tag = KT11B_REPLY_DATA(kt11b_cell_tag(unit, cell));
         unsigned word = KT11B_REPLY_DATA(kt11b_cell_word(unit, cell));
 
@@ -268,7 +268,10 @@ static void a_page_not_in_core(void)
 
 int main(void)
 {
-    kt11b_fresh(unit);
+    if (KT11B_REPLY_ANSWER(kt11b_fresh(unit, KT11B_CELLS_8)) != KT11B_DONE) {
+        puts("No unit was made.");
+        return 1;
+    }
     load_maps();
     puts("Two users, 001 and 041, with a map each. All numbers are octal.\n");
     puts("who      does        address data     ANS DATA   PHYS   KTCS\n");

@@ -9,8 +9,13 @@
  * Every call answers, for every number and for every content of the words and of the memory. Words that don't hold a unit
  * (never made by kt11b_fresh, or written over) are answered KT11B_NO_UNIT, and then neither the words nor the memory change.
  * What is tested: the first and the last word, which say that a unit lies between them, and each field that has fewer values
- * than a word (KTCS's bits that read 0, the wait, the two counts, the public flag, the counter). What is not: a register, a
- * cell's tag or a scratchpad word that was changed into another 16-bit word makes another unit, and is taken for it.
+ * than a word (KTCS's bits that read 0, the wait, the two counts, the public flag, the number of cells, and the counter, which
+ * names one of them). What is not: a register, a cell's tag or a scratchpad word that was changed into another 16-bit word makes
+ * another unit, and is taken for it.
+ *
+ * A unit has 8 or 24 associative cells, and as many words for both. In those of a unit with 8 there is room for the 16 cells that
+ * it hasn't got: words 26 to 41, counted from 0, for their tags and words 50 to 65 for their scratchpad words. kt11b_fresh sets
+ * them to 0. They are not tested, no call and no reading looks at them, and what stands there changes no answer.
  *
  * What the pointers must be is C's business and is tested by nothing: `unit` points to KT11B_UNIT_WORDS words, `memory` to
  * `length` bytes, neither is null (where length is 0, `memory` is any pointer that is not null), and the two do not overlap.
@@ -30,10 +35,14 @@ typedef char kt11b_short_has_16_bits[sizeof(unsigned short) == 2 ? 1 : -1];
  * The version of this interface. It rises with each change of a function, of an answer or of the unit's words. Words that were
  * saved are for the same version alone; those of another layout begin with another word and are answered KT11B_NO_UNIT.
  */
-#define KT11B_VERSION 1
+#define KT11B_VERSION 2
 
-/* The unit: unsigned short unit[KT11B_UNIT_WORDS]; */
-#define KT11B_UNIT_WORDS 34
+/* The unit, with either number of cells: unsigned short unit[KT11B_UNIT_WORDS]; */
+#define KT11B_UNIT_WORDS 67
+
+/* The numbers of associative cells that a unit can be made with. kt11b_cells gives a unit's own. */
+#define KT11B_CELLS_8 8UL
+#define KT11B_CELLS_24 24UL
 
 /* The most memory that can be lent, in bytes; the length is even. Other lengths are answered KT11B_MISSHAPEN. */
 #define KT11B_MEMORY_MOST 0760000UL
@@ -55,7 +64,10 @@ typedef char kt11b_short_has_16_bits[sizeof(unsigned short) == 2 ? 1 : -1];
 #define KT11B_WORD 0UL
 #define KT11B_BYTE 1UL
 
-/* Answers. 4 to 8 are the violations; they, and a paged 9, put the unit into exec and leave it waiting for two SERVICE DATOs. */
+/*
+ * Answers. 4 to 8 are the violations; they, and a paged 9, put the unit into exec and leave it waiting for two SERVICE DATOs.
+ * KT11B_OTHER_COUNT answers the making of a unit, and no call.
+ */
 #define KT11B_DONE 0            /* done */
 #define KT11B_MISSHAPEN 1       /* a number that is none of those listed, a memory of a bad length, or an access of a bad shape */
 #define KT11B_NOT_DUE 2         /* the unit waits for another access, or FCN is 3 */
@@ -66,6 +78,7 @@ typedef char kt11b_short_has_16_bits[sizeof(unsigned short) == 2 ? 1 : -1];
 #define KT11B_PV 7              /* privacy violation */
 #define KT11B_IV 8              /* instruction violation */
 #define KT11B_TIME_OUT 9        /* time-out: no map word, or no target, at that address */
+#define KT11B_OTHER_COUNT 30    /* a unit is made with 8 or 24 cells, and with no other number */
 #define KT11B_NO_UNIT 70        /* the words don't hold a unit */
 
 /* Registers, by their place in the table of addresses from 777572 (octal) on. KTWN, place 0, is a window and is not read here. */
@@ -92,9 +105,6 @@ typedef char kt11b_short_has_16_bits[sizeof(unsigned short) == 2 ? 1 : -1];
 #define KT11B_KTCS_AV 0040000U          /* address violation */
 #define KT11B_KTCS_IV 0100000U          /* instruction violation */
 
-/* How many associative cells there are. */
-#define KT11B_CELLS 8UL
-
 /* What the unit waits for, as kt11b_wait gives it. */
 #define KT11B_WAIT_NOTHING 0
 #define KT11B_WAIT_STATUS 1             /* the first SERVICE DATO, which brings the processor's status */
@@ -113,8 +123,12 @@ typedef char kt11b_short_has_16_bits[sizeof(unsigned short) == 2 ? 1 : -1];
 #define KT11B_REPLY_HAS_PHYSICAL(reply) ((int) (((reply) >> 34) & 1UL))
 #define KT11B_REPLY_ANSWER(reply) ((int) (((reply) >> 40) & 0xFFUL))
 
-/* Makes a fresh unit, all zero and then INIT, of whatever was in the words. */
-void kt11b_fresh(unsigned short *unit);
+/*
+ * Makes a fresh unit, all zero and then INIT, with so many cells: KT11B_CELLS_8 or KT11B_CELLS_24. It is made of whatever was in
+ * the words, all of them are set, and the answer is KT11B_DONE. Every other number is answered KT11B_OTHER_COUNT and leaves the
+ * words as they were, also a unit that stood there. Nothing else sets the number of cells: no call changes it.
+ */
+unsigned long kt11b_fresh(unsigned short *unit, unsigned long cells);
 
 /*
  * One access of the processor's: an operation, its state and width, the 16-bit address and the data of a store. The reply
@@ -141,8 +155,10 @@ unsigned long kt11b_init(unsigned short *unit);
 /*
  * For a front panel or a debugger. These change nothing; the reply's data is what is asked for. KT11B_NO_UNIT if the words
  * don't hold a unit; KT11B_MISSHAPEN where the number is none of the registers' (KT11B_KTMR to KT11B_KTEM) or the index not
- * below KT11B_CELLS.
+ * below the unit's own number of cells, which kt11b_cells gives. Cell i, from 0 on, is the one that the counter names at 10 + i
+ * (octal), and the bus has its scratchpad word at 777620 + 2i (octal).
  */
+unsigned long kt11b_cells(const unsigned short *unit);
 unsigned long kt11b_register(const unsigned short *unit, unsigned long number);
 unsigned long kt11b_cell_tag(const unsigned short *unit, unsigned long index);
 unsigned long kt11b_cell_word(const unsigned short *unit, unsigned long index);

@@ -1,5 +1,5 @@
 /*
- * Every answer, wait, register and field of KTCS by its name in the header, each from calls that give it.
+ * Every answer, wait, register, number of cells and field of KTCS by its name in the header, each from calls that give it.
  *
  * The numbers are not written out here: what is tested is that the header's names mean what the library does. The situations
  * and what they come to are worked from the unit's rules. All numbers are octal where they begin with 0.
@@ -17,6 +17,10 @@
 
 static unsigned short unit[KT11B_UNIT_WORDS];
 static unsigned char memory[KT11B_MEMORY_MOST + 2];
+
+/* All of it is tried with either number of cells. */
+static const unsigned long counts[] = {KT11B_CELLS_8, KT11B_CELLS_24};
+static unsigned long count;
 
 /* A word of memory, low byte first, written behind the unit's back. */
 static void put_word(unsigned long place, unsigned word)
@@ -81,13 +85,18 @@ static void expect_bare(const char *what, unsigned long reply, int answer)
     expect(what, reply, answer, 0, NO_ADDRESS);
 }
 
+static void make_unit(void)
+{
+    expect_bare("a unit is made", kt11b_fresh(unit, count), KT11B_DONE);
+}
+
 /*
  * A user in FCN 2: KTUM names 16 simple pages, with the map in physical page 5. Page 1 is private and open, page 2 is not
  * resident, page 3 has no write key, page 4 is public. The words fetched are RESET in page 1 and a plain one in page 4.
  */
 static void start_user(void)
 {
-    kt11b_fresh(unit);
+    make_unit();
     put_word(05402, 0120020);
     put_word(05404, 0020022);
     put_word(05406, 0100021);
@@ -107,7 +116,7 @@ static void plain_answers(void)
     start_user();
     expect("a read that is done", read_word(001010), KT11B_DONE, 0123, 020010);
     expect_bare("a DATO as byte", byte_access(KT11B_DATO, 001010, 7), KT11B_MISSHAPEN);
-    kt11b_fresh(unit);
+    make_unit();
     expect("a register's address, of 18 bits", store_word(0177614, 020005), KT11B_DONE, 0, 0777614);
     expect_bare("an odd word, unpaged", read_word(001011), KT11B_UNPAGED_ODD);
     expect_bare("an address that nothing answers", read_word(0160000), KT11B_TIME_OUT);
@@ -187,7 +196,7 @@ static void registers(void)
         {KT11B_KTAD, 0177610}, {KT11B_KTDT, 0177612}, {KT11B_KTUM, 0177614}, {KT11B_KTEM, 0177616}};
     unsigned long index;
 
-    kt11b_fresh(unit);
+    make_unit();
     for (index = 0; index < COUNT(table); index++) {
         store_word(table[index].address, table[index].address ^ 0123000);
     }
@@ -199,8 +208,21 @@ static void registers(void)
     expect("KTMR", kt11b_register(unit, KT11B_KTMR), KT11B_DONE, 0004000, NO_ADDRESS);
     expect("KTCS", kt11b_register(unit, KT11B_KTCS), KT11B_DONE, 0000001, NO_ADDRESS);
     expect_bare("one register too many", kt11b_register(unit, KT11B_KTEM + 1), KT11B_MISSHAPEN);
-    expect("the last cell", kt11b_cell_tag(unit, KT11B_CELLS - 1), KT11B_DONE, 0, NO_ADDRESS);
-    expect_bare("one cell too many", kt11b_cell_tag(unit, KT11B_CELLS), KT11B_MISSHAPEN);
+}
+
+/* The number of cells by itself, and a unit that is not made. */
+static void cells(void)
+{
+    make_unit();
+    expect("the number of cells", kt11b_cells(unit), KT11B_DONE, (unsigned) count, NO_ADDRESS);
+    expect("the last cell's tag", kt11b_cell_tag(unit, count - 1), KT11B_DONE, 0, NO_ADDRESS);
+    expect("the last cell's word", kt11b_cell_word(unit, count - 1), KT11B_DONE, 0, NO_ADDRESS);
+    expect_bare("one tag too many", kt11b_cell_tag(unit, count), KT11B_MISSHAPEN);
+    expect_bare("one word too many", kt11b_cell_word(unit, count), KT11B_MISSHAPEN);
+    expect_bare("a number between the two", kt11b_fresh(unit, KT11B_CELLS_8 + 1), KT11B_OTHER_COUNT);
+    expect("the unit that stood there", kt11b_cells(unit), KT11B_DONE, (unsigned) count, NO_ADDRESS);
+    unit[0] = 0;
+    expect_bare("the number of words that don't hold a unit", kt11b_cells(unit), KT11B_NO_UNIT);
 }
 
 /* FCN, UM and IU, and which state sets SS and which DS. */
@@ -226,21 +248,32 @@ static unsigned long read_with_length(unsigned long length)
 /* The longest memory, and the map page. */
 static void sizes(void)
 {
-    kt11b_fresh(unit);
+    make_unit();
     expect("the longest memory", read_with_length(KT11B_MEMORY_MOST), KT11B_DONE, 0, 002010);
     expect_bare("a longer memory", read_with_length(KT11B_MEMORY_MOST + 2), KT11B_MISSHAPEN);
     check(kt11b_map_page(MEMORY_BYTES, 020005) == 05000, "the map page");
     check(kt11b_map_page(05776, 020005) == KT11B_NO_PAGE, "a map page that is not wholly in memory");
 }
 
-int main(void)
+static void every_name(void)
 {
     plain_answers();
     violations();
     operations();
     waits();
     registers();
+    cells();
     fields();
     sizes();
+}
+
+int main(void)
+{
+    unsigned long index;
+
+    for (index = 0; index < COUNT(counts); index++) {
+        count = counts[index];
+        every_name();
+    }
     return all_held();
 }

@@ -11,6 +11,9 @@
 #define EXECUTE KT11B_EXECUTE
 #define SERVICE KT11B_SERVICE
 
+/* How many cells the machine's unit is made with: the whole guide is gone through with either number. */
+static unsigned long made_with;
+
 static unsigned reg(unsigned long number)
 {
     return KT11B_REPLY_DATA(kt11b_register(unit, number));
@@ -52,7 +55,7 @@ static void new_machine(void)
     put_core_word(04, 0200), put_core_word(06, 0340);
     put_core_word(01004, 0200), put_core_word(01006, 0340);
     put_core_word(020034, 0300), put_core_word(020036, 0357);
-    power_on();
+    check(power_on(made_with) && running, "the machine is on");
     check(write_word(EXECUTE, 0177616, 0177001) == KT11B_DONE, "KTEM is stored");
     check(write_word(EXECUTE, 0177614, 0100005) == KT11B_DONE, "KTUM is stored");
 }
@@ -374,6 +377,46 @@ static void a_trace(void)
     print_violation();
 }
 
+/* "Every other number gives 30 and no unit"; "leaves the host's words as they were, .. also a unit that stood there" */
+static void making(void)
+{
+    unsigned short before[KT11B_UNIT_WORDS];
+
+    exec_paged();
+    memcpy(before, unit, sizeof before);
+    check(!power_on(16) && !running, "a machine with 16 cells does not come on");
+    check(memcmp(before, unit, sizeof before) == 0, "and the unit that stood there is as it was");
+    check(power_on(made_with) && running && ktcs() == 0, "a new unit is made in its place");
+    check(KT11B_REPLY_DATA(kt11b_cells(unit)) == made_with, "with the cells that were asked for");
+}
+
+/* Thirty pages, more than there are cells: from exec page 3 on, whose map word stands at 001406. Page 2 is the registers. */
+static void cells_of_the_unit(void)
+{
+    unsigned walks, page;
+
+    exec_paged();
+    check(cells_in_use() == 0, "the cells are empty");
+    for (walks = 1; walks <= 30; walks++) {
+        page = 2 + walks;
+        put_core_word(01400 + 2 * page, 0120001);
+        check(read_word(EXECUTE, (unsigned short) (01000 * page)) == KT11B_DONE, "a page is read");
+        check(cells_in_use() == (walks < made_with ? walks : made_with), "and takes a cell, until all are in use");
+    }
+    check(write_word(EXECUTE, 02616, 0177001) == KT11B_DONE && cells_in_use() == 0, "a store into KTEM empties them all");
+}
+
+/* 777640 to 777677 are nowhere for a unit with 8 cells, and registers of one with 24; 777700 on is nowhere for both. */
+static void last_scratchpad_words(void)
+{
+    int there = made_with == KT11B_CELLS_24 ? KT11B_DONE : KT11B_TIME_OUT;
+
+    new_machine();
+    check(read_word(EXECUTE, 0177636) == KT11B_DONE, "777636 is a register");
+    check(read_word(EXECUTE, 0177640) == there && read_word(EXECUTE, 0177676) == there, "777640 and 777676");
+    check(read_word(EXECUTE, 0177700) == KT11B_TIME_OUT, "777700 is nowhere");
+}
+
 static void save_and_restore(void)
 {
     struct saved kept, other;
@@ -388,10 +431,15 @@ static void save_and_restore(void)
     other = kept;
     other.words[0] ^= 1;
     check(!restore(&other) && ktcs() == 022, "another layout is refused");
+    check(power_on(KT11B_CELLS_8 + KT11B_CELLS_24 - made_with) && restore(&kept) && ktcs() == 022, "over the other number");
+    check(KT11B_REPLY_DATA(kt11b_cells(unit)) == made_with, "a unit has the cells that it was saved with");
 }
 
-int main(void)
+static void whole_guide(void)
 {
+    making();
+    cells_of_the_unit();
+    last_scratchpad_words();
     one_access();
     unpaged_odd_word();
     unpaged_time_out();
@@ -412,5 +460,13 @@ int main(void)
     a_question();
     save_and_restore();
     a_trace();
+}
+
+int main(void)
+{
+    made_with = KT11B_CELLS_8;
+    whole_guide();
+    made_with = KT11B_CELLS_24;
+    whole_guide();
     return all_held();
 }
