@@ -35,6 +35,29 @@
 //! assert_eq!(odd.answer(), Answer::AddressViolation);
 //! assert_eq!(odd.physical(), None);
 //! ```
+//!
+//! # Eight cells or 24
+//!
+//! A unit keeps the map words that it has read in associative cells: 8 of them, or the 24 of the option. [`Unit::fresh`] makes a
+//! unit with 8, [`Unit::with_cells`] one with either number. The scratchpad words of the cells stand at 777620 to 777636, or to
+//! 777676:
+//!
+//! ```
+//! use kt11b::{Answer, Operation, State, Unit, Width, CELLS_24};
+//!
+//! let mut memory = vec![0u8; 65_536];
+//! let mut last_word = |unit: &mut Unit| {
+//!     unit.access(&mut memory, Operation::Dati, State::Source, Width::Word, 0o177676, 0)
+//! };
+//!
+//! let mut unit = Unit::fresh();
+//! assert_eq!(unit.cells(), Some(8));
+//! assert_eq!(last_word(&mut unit).answer(), Answer::TimeOut);
+//!
+//! let mut unit = Unit::with_cells(CELLS_24).expect("24 is one of the two numbers");
+//! assert_eq!(unit.cells(), Some(24));
+//! assert_eq!(last_word(&mut unit).answer(), Answer::Done);
+//! ```
 
 #![no_std]
 #![deny(missing_docs)]
@@ -49,10 +72,10 @@ mod unit;
 pub use numbered::NumberedAccess;
 pub use numbers::{Answer, Operation, Register, State, Vector, Wait, Width};
 pub use reply::Reply;
-pub use unit::{map_page, Unit, CELLS, LONGEST_MEMORY, UNIT_WORDS};
+pub use unit::{map_page, Unit, CELLS_24, CELLS_8, LONGEST_MEMORY, UNIT_WORDS};
 
 /// The version of the library's interface, the same number as the C header's `KT11B_VERSION`.
 ///
 /// It rises with each change of a function of the library, of an answer or of the unit's words. Words that were saved are for
 /// the same version alone.
-pub const VERSION: u32 = 1;
+pub const VERSION: u32 = 2;

@@ -148,8 +148,8 @@ impl Wait {
 
 /// The answers.
 ///
-/// 1, 2, 3 and `NoUnit` change nothing at all. 4 to 8 set their flag in KTCS, put the unit into exec and leave it waiting for
-/// two SERVICE DATOs, and so does a time-out of a paged access, which has no flag.
+/// 1, 2, 3, `OtherCount` and `NoUnit` change nothing at all. 4 to 8 set their flag in KTCS, put the unit into exec and leave it
+/// waiting for two SERVICE DATOs, and so does a time-out of a paged access, which has no flag.
 #[derive(Clone, Copy, PartialEq, Eq, Hash, Debug)]
 #[non_exhaustive]
 pub enum Answer {
@@ -173,6 +173,9 @@ pub enum Answer {
     InstructionViolation,
     /// 9: nothing answers at that address, or at its map word's.
     TimeOut,
+    /// 30: a unit is made with 8 or 24 cells, and this is another number. It answers
+    /// [`Unit::with_cells`](crate::Unit::with_cells), and no call of a unit.
+    OtherCount,
     /// 70: the words don't hold a unit.
     NoUnit,
     /// A number that no rule lists; no call of the library gives one.
@@ -192,6 +195,7 @@ impl Answer {
             7 => Answer::PrivacyViolation,
             8 => Answer::InstructionViolation,
             9 => Answer::TimeOut,
+            30 => Answer::OtherCount,
             70 => Answer::NoUnit,
             other => Answer::Other(other),
         }

@@ -6,11 +6,14 @@ use crate::numbers::{Operation, Register, State, Vector, Wait, Width};
 use crate::reply::Reply;
 use core::fmt;
 
-/// How many words a unit takes.
-pub const UNIT_WORDS: usize = 34;
+/// How many words a unit takes, with either number of cells.
+pub const UNIT_WORDS: usize = 67;
 
-/// How many associative cells there are.
-pub const CELLS: usize = 8;
+/// The number of associative cells that the KT11-B has.
+pub const CELLS_8: u64 = 8;
+
+/// The number of associative cells that the option has.
+pub const CELLS_24: u64 = 24;
 
 /// The most memory that can be lent, in bytes: 760000 octal. The length is also even.
 pub const LONGEST_MEMORY: usize = 0o760000;
@@ -24,18 +27,47 @@ pub struct Unit {
 }
 
 impl Unit {
-    /// A fresh unit: all zero, then INIT.
+    /// A fresh unit with 8 cells: all zero, then INIT.
+    ///
+    /// ```
+    /// let unit = kt11b::Unit::fresh();
+    /// assert_eq!((unit.cells(), unit.counter()), (Some(8), Some(0o10)));
+    /// ```
     pub fn fresh() -> Unit {
+        Unit::with_cells(CELLS_8).expect("the library makes a unit with 8 cells")
+    }
+
+    /// A fresh unit with so many cells, [`CELLS_8`] or [`CELLS_24`]: all zero, then INIT.
+    ///
+    /// Nothing else sets the number: no call changes it. Every other number gives no unit, and the library's reply, whose
+    /// answer is [`Answer::OtherCount`](crate::Answer::OtherCount).
+    ///
+    /// ```
+    /// use kt11b::{Answer, Unit};
+    ///
+    /// let unit = Unit::with_cells(24).expect("24 is one of the two numbers");
+    /// assert_eq!((unit.cells(), unit.counter()), (Some(24), Some(0o10)));
+    ///
+    /// let refused = Unit::with_cells(16).expect_err("16 is not");
+    /// assert_eq!(refused.answer(), Answer::OtherCount);
+    /// assert_eq!(refused.answer_number(), 30);
+    /// ```
+    pub fn with_cells(cells: u64) -> Result<Unit, Reply> {
         let mut words = [0; UNIT_WORDS];
         // Sound: `words` is UNIT_WORDS words that nothing else refers to.
-        unsafe { kt11b_fresh(words.as_mut_ptr()) };
-        Unit { words }
+        let reply = Reply::from_number(unsafe { kt11b_fresh(words.as_mut_ptr(), cells) });
+        if reply.is_done() {
+            Ok(Unit { words })
+        } else {
+            Err(reply)
+        }
     }
 
     /// A unit of words that [`words`](Unit::words) gave, in this run or an earlier one.
     ///
     /// Any words are taken. Words that don't hold a unit are refused by each call with
-    /// [`Answer::NoUnit`](crate::Answer::NoUnit), and then nothing changes.
+    /// [`Answer::NoUnit`](crate::Answer::NoUnit), and then nothing changes. In the words of a unit with 8 cells, those with room
+    /// for the 16 that it hasn't got, 26 to 41 and 50 to 65, can be anything and change no answer; a fresh unit has 0 there.
     pub fn from_words(words: [u16; UNIT_WORDS]) -> Unit {
         Unit { words }
     }
@@ -45,7 +77,8 @@ impl Unit {
         &self.words
     }
 
-    /// Whether the words hold a unit. Those of [`fresh`](Unit::fresh) do, and every call keeps it so.
+    /// Whether the words hold a unit. Those of [`fresh`](Unit::fresh) and [`with_cells`](Unit::with_cells) do, and every call
+    /// keeps it so.
     pub fn is_unit(&self) -> bool {
         self.counter().is_some()
     }
@@ -116,8 +149,15 @@ impl Unit {
         Reply::from_number(unsafe { kt11b_register(self.words.as_ptr(), number) })
     }
 
-    /// A cell's tag: 128 for user plus the page, 0 for an empty cell. None at or beyond [`CELLS`], or if the words don't hold
-    /// a unit.
+    /// The number of cells that the unit was made with, 8 or 24, or none if the words don't hold a unit.
+    pub fn cells(&self) -> Option<usize> {
+        // Sound: the library only reads here.
+        let reply = Reply::from_number(unsafe { kt11b_cells(self.words.as_ptr()) });
+        held(reply).map(usize::from)
+    }
+
+    /// A cell's tag: 128 for user plus the page, 0 for an empty cell. None at or beyond the unit's own number of
+    /// [`cells`](Unit::cells), or if the words don't hold a unit.
     pub fn cell_tag(&self, index: usize) -> Option<u16> {
         held(self.cell_tag_numbered(index as u64))
     }
@@ -128,7 +168,8 @@ impl Unit {
         Reply::from_number(unsafe { kt11b_cell_tag(self.words.as_ptr(), index) })
     }
 
-    /// A cell's scratchpad word. None at or beyond [`CELLS`], or if the words don't hold a unit.
+    /// A cell's scratchpad word. None at or beyond the unit's own number of [`cells`](Unit::cells), or if the words don't hold a
+    /// unit.
     pub fn cell_word(&self, index: usize) -> Option<u16> {
         held(self.cell_word_numbered(index as u64))
     }
@@ -139,7 +180,7 @@ impl Unit {
         Reply::from_number(unsafe { kt11b_cell_word(self.words.as_ptr(), index) })
     }
 
-    /// The replacement counter, 10 to 17 octal, or none if the words don't hold a unit.
+    /// The replacement counter, 10 to 17 octal with 8 cells and 10 to 37 with 24, or none if the words don't hold a unit.
     pub fn counter(&self) -> Option<u16> {
         // Sound: the library only reads here.
         held(Reply::from_number(unsafe { kt11b_counter(self.words.as_ptr()) }))
@@ -173,7 +214,7 @@ impl fmt::Debug for Unit {
             };
             shown.field(register.name(), &format_args!("{word:06o}"));
         }
-        shown.field("wait", &self.wait()).finish_non_exhaustive()
+        shown.field("wait", &self.wait()).field("cells", &self.cells()).finish_non_exhaustive()
     }
 }
 

@@ -4,7 +4,8 @@ mod common;
 
 use common::answers::CASES;
 use kt11b::{
-    ktcs, Operation, Register, State, Wait, Width, CELLS, LONGEST_MEMORY, UNIT_WORDS, VERSION,
+    ktcs, Operation, Register, State, Wait, Width, CELLS_24, CELLS_8, LONGEST_MEMORY, UNIT_WORDS,
+    VERSION,
 };
 use std::collections::BTreeMap;
 
@@ -58,7 +59,8 @@ fn lists() -> Vec<(&'static str, u64)> {
         ("VERSION", u64::from(VERSION)),
         ("UNIT_WORDS", UNIT_WORDS as u64),
         ("MEMORY_MOST", LONGEST_MEMORY as u64),
-        ("CELLS", CELLS as u64),
+        ("CELLS_8", CELLS_8),
+        ("CELLS_24", CELLS_24),
         ("DATI", Operation::Dati as u64),
         ("DATIP", Operation::Datip as u64),
         ("DATO", Operation::Dato as u64),

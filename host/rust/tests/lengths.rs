@@ -2,8 +2,8 @@
 
 mod common;
 
-use common::{parts, Rig};
-use kt11b::{ktcs, Answer, Register, Reply, Unit, Wait, CELLS};
+use common::{parts, Rig, BOTH};
+use kt11b::{ktcs, Answer, Register, Reply, Wait};
 
 /// A map word: resident, public, write-enabled, physical page 0, which every memory here holds as far as it is read.
 const MAP_WORD: u16 = 0o160000;
@@ -22,9 +22,9 @@ struct Walk {
 }
 
 impl Walk {
-    /// A read of the address with so much memory lent; it holds those of the words that are below its length.
-    fn read(&self, length: usize) -> (Rig, Reply) {
-        let mut rig = Rig { unit: Unit::fresh(), memory: vec![0; length] };
+    /// A read of the address with so many cells and so much memory lent; it holds those of the words that are below its length.
+    fn read(&self, cells: u64, length: usize) -> (Rig, Reply) {
+        let mut rig = Rig { memory: vec![0; length], ..Rig::with_cells(cells) };
         rig.put(0o000010, 0o000123);
         for &(place, word) in self.words.iter().filter(|&&(place, _)| place < length) {
             rig.put(place, word);
@@ -42,10 +42,16 @@ impl Walk {
 
     /// "A walk that times out fills nothing", and so the counter stays where it was.
     fn times_out_with(&self, length: usize) {
-        let (rig, reply) = self.read(length);
+        for cells in BOTH {
+            self.times_out(cells, length);
+        }
+    }
+
+    fn times_out(&self, cells: u64, length: usize) {
+        let (rig, reply) = self.read(cells, length);
         assert_eq!(parts(reply), (Answer::TimeOut, 0, None), "L={length:o}");
         assert_eq!(rig.unit.counter(), Some(0o10), "L={length:o}");
-        for cell in 0..CELLS {
+        for cell in 0..cells as usize {
             assert_eq!((rig.unit.cell_tag(cell), rig.unit.cell_word(cell)), (Some(0), Some(0)));
         }
         // It was paged, and a time-out has no flag: DS is the DESTINATION read's, IU has taken UM.
@@ -57,7 +63,13 @@ impl Walk {
 
     /// "A finished walk fills the cell the counter names, then the counter steps".
     fn is_done_with(&self, length: usize) {
-        let (rig, reply) = self.read(length);
+        for cells in BOTH {
+            self.is_done(cells, length);
+        }
+    }
+
+    fn is_done(&self, cells: u64, length: usize) {
+        let (rig, reply) = self.read(cells, length);
         assert_eq!(parts(reply), (Answer::Done, 0o000123, Some(0o000010)), "L={length:o}");
         assert_eq!(rig.unit.cell_tag(0), Some(self.tag));
         assert_eq!(rig.unit.cell_word(0), Some(MAP_WORD));

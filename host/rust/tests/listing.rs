@@ -2,12 +2,19 @@
 
 mod common;
 
-use common::{parts, Rig};
+use common::{parts, Rig, BOTH};
 use kt11b::{Answer, Register, Vector, Wait};
 
+/// "The listing of 01 prints the same with both counts."
 #[test]
 fn the_listing_of_01() {
-    let mut rig = Rig::new();
+    for cells in BOTH {
+        listing_with_cells(cells);
+    }
+}
+
+fn listing_with_cells(cells: u64) {
+    let mut rig = Rig::with_cells(cells);
     rig.put(0o001402, 0o160002);
     rig.put(0o002004, 0o000123);
     let expected = [
@@ -25,7 +32,13 @@ fn the_listing_of_01() {
 /// "the unit waits for two SERVICE DATOs. The first puts data in KTPS; the second puts address in KTSP and data in KTPC."
 #[test]
 fn a_residency_fault_and_the_way_back() {
-    let mut rig = Rig::user();
+    for cells in BOTH {
+        fault_and_way_back_with_cells(cells);
+    }
+}
+
+fn fault_and_way_back_with_cells(cells: u64) {
+    let mut rig = Rig::user_with_cells(cells);
     let refused = rig.write(0o002004, 0o000041);
     assert_eq!(parts(refused), (Answer::ResidencyViolation, 0, None));
     assert_eq!(rig.unit.register(Register::Ktcs), Some(0o004052));

@@ -2,17 +2,24 @@
 
 mod common;
 
-use common::Rig;
-use kt11b::{Answer, Register, Unit, Wait, CELLS};
+use common::{parts, Rig, BOTH};
+use kt11b::{Answer, Register, Unit, Wait};
 
 #[test]
 fn a_fresh_unit() {
-    let unit = Unit::fresh();
+    for cells in BOTH {
+        fresh_with_cells(cells);
+    }
+}
+
+fn fresh_with_cells(cells: u64) {
+    let unit = Rig::with_cells(cells).unit;
     for register in Register::ALL {
         let expected = if register == Register::Ktmr { 0o004000 } else { 0 };
         assert_eq!(unit.register(register), Some(expected), "{register:?}");
     }
-    for cell in 0..CELLS {
+    assert_eq!(unit.cells(), Some(cells as usize));
+    for cell in 0..cells as usize {
         assert_eq!((unit.cell_tag(cell), unit.cell_word(cell)), (Some(0), Some(0)));
     }
     assert_eq!(unit.counter(), Some(0o10));
@@ -74,11 +81,22 @@ fn numbers_outside_their_lists() {
     for number in [0, 11, 12, 300, 1 << 32, u64::MAX] {
         assert_eq!(unit.register_numbered(number).answer(), Answer::Misshapen, "{number}");
     }
-    for index in [8, 9, 24, 300, 1 << 32, u64::MAX] {
-        assert_eq!(unit.cell_tag_numbered(index).answer(), Answer::Misshapen);
-        assert_eq!(unit.cell_word_numbered(index).answer(), Answer::Misshapen);
+}
+
+/// "answer 1 at or beyond the unit's own number".
+#[test]
+fn indices_beyond_the_cells() {
+    for cells in BOTH {
+        let unit = Rig::with_cells(cells).unit;
+        for index in [7, 8, 9, 23, 24, 25, 300, 1 << 32, (1 << 32) + 7, u64::MAX] {
+            let answer = if index < cells { Answer::Done } else { Answer::Misshapen };
+            assert_eq!(parts(unit.cell_tag_numbered(index)), (answer, 0, None), "{index}");
+            assert_eq!(parts(unit.cell_word_numbered(index)), (answer, 0, None), "{index}");
+        }
+        let past = cells as usize;
+        assert_eq!((unit.cell_tag(past - 1), unit.cell_word(past - 1)), (Some(0), Some(0)));
+        assert_eq!((unit.cell_tag(past), unit.cell_word(past)), (None, None));
     }
-    assert_eq!((unit.cell_tag(CELLS), unit.cell_word(CELLS)), (None, None));
 }
 
 #[test]
@@ -91,7 +109,7 @@ fn reading_changes_nothing() {
             rig.unit.cell_tag_numbered(number);
             rig.unit.cell_word_numbered(number);
         }
-        (rig.unit.counter(), rig.unit.wait())
+        (rig.unit.counter(), rig.unit.wait(), rig.unit.cells())
     });
 }
 
@@ -99,6 +117,7 @@ fn reading_changes_nothing() {
 fn shown_for_debugging() {
     let shown = format!("{:?}", Rig::user().unit);
     assert!(shown.contains("Ktum: 020005"), "{shown}");
+    assert!(shown.contains("cells: Some(8)"), "{shown}");
     let shown = format!("{:?}", Unit::from_words([0; kt11b::UNIT_WORDS]));
     assert!(shown.contains("words that don't hold a unit"), "{shown}");
 }

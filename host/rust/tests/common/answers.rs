@@ -1,4 +1,4 @@
-//! The eleven answers, each with a call of the library that gives it.
+//! The twelve answers, each with a call of the library that gives it.
 
 use super::Rig;
 use kt11b::{ktcs, Answer, NumberedAccess, Reply, Unit, UNIT_WORDS};
@@ -7,7 +7,7 @@ use kt11b::{ktcs, Answer, NumberedAccess, Reply, Unit, UNIT_WORDS};
 pub struct Case {
     /// The answer's name in the header, behind KT11B_.
     pub name: &'static str,
-    /// Its number in 01's table "What comes back"; 70 is the library's own.
+    /// Its number in 01's table "What comes back"; 30 is that of a making, and 70 the library's own.
     pub number: u8,
     /// Answer, data and physical address of the reply.
     pub parts: (Answer, u16, Option<u32>),
@@ -22,7 +22,7 @@ const fn bare(name: &'static str, number: u8, answer: Answer, call: fn() -> (Rig
 }
 
 /// Every answer once, in the order of the numbers.
-pub const CASES: [Case; 11] = [
+pub const CASES: [Case; 12] = [
     Case {
         parts: (Answer::Done, 0o000123, Some(0o020010)),
         ..bare("DONE", 0, Answer::Done, a_read_that_is_done)
@@ -40,6 +40,7 @@ pub const CASES: [Case; 11] = [
         ..bare("IV", 8, Answer::InstructionViolation, a_users_reset)
     },
     bare("TIME_OUT", 9, Answer::TimeOut, an_address_that_nothing_answers),
+    bare("OTHER_COUNT", 30, Answer::OtherCount, a_unit_with_16_cells),
     bare("NO_UNIT", 70, Answer::NoUnit, words_of_zero),
 ];
 
@@ -118,6 +119,12 @@ fn an_address_that_nothing_answers() -> (Rig, Reply) {
     let mut rig = Rig::new();
     let reply = rig.read(0o160000);
     (rig, reply)
+}
+
+/// "Every other number gives 30 and no unit"; a unit that is there has no part in it.
+fn a_unit_with_16_cells() -> (Rig, Reply) {
+    let reply = Unit::with_cells(16).expect_err("16 is neither 8 nor 24");
+    (Rig::new(), reply)
 }
 
 fn words_of_zero() -> (Rig, Reply) {

@@ -3,7 +3,10 @@
 
 pub mod answers;
 
-use kt11b::{Answer, NumberedAccess, Operation, Reply, State, Unit, Width};
+use kt11b::{Answer, NumberedAccess, Operation, Reply, State, Unit, Width, CELLS_24, CELLS_8};
+
+/// The numbers of cells that a unit can be made with.
+pub const BOTH: [u64; 2] = [CELLS_8, CELLS_24];
 
 pub struct Rig {
     pub unit: Unit,
@@ -11,9 +14,15 @@ pub struct Rig {
 }
 
 impl Rig {
-    /// A fresh unit and 65,536 bytes of zero.
+    /// A fresh unit with 8 cells and 65,536 bytes of zero.
     pub fn new() -> Rig {
-        Rig { unit: Unit::fresh(), memory: vec![0; 65_536] }
+        Rig::with_cells(CELLS_8)
+    }
+
+    /// The same with so many cells.
+    pub fn with_cells(cells: u64) -> Rig {
+        let unit = Unit::with_cells(cells).expect("one of the two numbers");
+        Rig { unit, memory: vec![0; 65_536] }
     }
 
     /// The first two stores of 01's listing: KTEM N=127, M=1, then FCN 2, with exec page 1 in physical page 2.
@@ -28,7 +37,12 @@ impl Rig {
 
     /// A user in FCN 2: KTUM N=16, M=5; user page 1 open (page 20), page 2 not resident, page 3 read-only (page 21).
     pub fn user() -> Rig {
-        let mut rig = Rig::new();
+        Rig::user_with_cells(CELLS_8)
+    }
+
+    /// The same with so many cells.
+    pub fn user_with_cells(cells: u64) -> Rig {
+        let mut rig = Rig::with_cells(cells);
         rig.put(0o005402, 0o120020);
         rig.put(0o005404, 0o020022);
         rig.put(0o005406, 0o100021);
