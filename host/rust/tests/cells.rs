@@ -267,7 +267,7 @@ fn through_the_window() {
         (Some(0), Some(0)),
         "the inner has none"
     );
-    assert_eq!(rig.unit.counter(), Some(0o12), "which its walk had filled");
+    assert_eq!(rig.unit.counter(), Some(0o12), "but its walk was made");
     assert_eq!(rig.unit.register(Register::Ktad), Some(0o003640));
     assert_eq!(rig.unit.wait(), Some(Wait::Status));
 }
