@@ -1,6 +1,7 @@
 /*
- * A host that passes anything, for the tests of it. Each memory is a block of exactly its length, and words of a known value stand on
- * both sides of the unit, so that what strays is seen here or by valgrind. PROGRAM, the test's name, is defined before this.
+ * A host that passes anything, for the tests of it. Each memory is a block of exactly its length, and words of a known value
+ * stand on both sides of the unit, so that what strays is seen here or by valgrind. PROGRAM, the test's name, is defined before
+ * this.
  */
 #include <stdio.h>
 #include <stdlib.h>
@@ -132,7 +133,10 @@ static void check_words_unchanged(const char *what)
     check(memcmp(words, words_before, sizeof words) == 0, what);
 }
 
-/* A call's or a reading's reply has an answer of the list, and no bit besides its parts. "30 answers the making of a unit and not a call". */
+/*
+ * The reply of a call or a reading has an answer of the list, and no bit besides its parts. "30 answers the making of a unit and
+ * not a call".
+ */
 static int checked_answer(unsigned long reply)
 {
     int answer = KT11B_REPLY_ANSWER(reply);

@@ -7,14 +7,14 @@
 #define PROGRAM "any_cells"
 #include "any.h"
 
-/* Where the fields lie that are written over here: the number of cells, the counter, then all tags and all scratchpad words. */
+/* Where the fields lie that are written over here: number of cells, counter, all tags, all scratchpad words, last word. */
 #define CELLS_AT 16
 #define COUNTER_AT 17
 #define TAGS_AT 18
 #define WORDS_AT 42
 #define LAST_AT 66
 
-/* "the counter 10o" names the first cell. */
+/* "Cell i (from 0) is the one that the counter names at 10o + i". */
 #define FIRST_CELL 010
 
 /* Of so many calls of a run one is INIT, and seven are interrupts and traps. */
@@ -119,17 +119,17 @@ static void making(void)
 /* Every call and every reading of words that are no unit: "answered 70", and the words stay. */
 static void check_no_unit(const char *what)
 {
-    unsigned char byte[2] = {0, 0};
+    unsigned char lent[2] = {0, 0};
     unsigned long none = bare(KT11B_NO_UNIT);
 
     remember();
-    check(kt11b_access(unit, byte, 2, KT11B_DATO, KT11B_EXECUTE, KT11B_WORD, 0, 0123456) == none, what);
+    check(kt11b_access(unit, lent, 2, KT11B_DATO, KT11B_EXECUTE, KT11B_WORD, 0, 0123456) == none, what);
     check(kt11b_interrupt(unit) == none && kt11b_trap(unit, 030) == none && kt11b_init(unit) == none, what);
     check(kt11b_cells(unit) == none && kt11b_counter(unit) == none && kt11b_wait(unit) == none, what);
     check(kt11b_cell_tag(unit, 0) == none && kt11b_cell_word(unit, 0) == none, what);
     check(kt11b_register(unit, KT11B_KTMR) == none, what);
     check_words_unchanged(what);
-    check(byte[0] == 0 && byte[1] == 0, what);
+    check(lent[0] == 0 && lent[1] == 0, what);
 }
 
 /* "Words that say 8 cells with a counter above 17o, or 24 with one above 37o, or either with one below 10o, are no unit." */
@@ -327,7 +327,7 @@ static void number_stays(unsigned long cells, unsigned long rounds)
 /* An 8-cell unit beside the unit in `words`, which differs from it in the room for absent cells alone. Its memory is `expected`. */
 static unsigned short garbled[KT11B_UNIT_WORDS];
 
-/* Puts into that room what a search would find if it came there: the pages that this access may ask for, with words of their own. */
+/* Puts into that room what a search would find if it came there: the pages that this access may ask for, with other words. */
 static void garble(const struct access *made)
 {
     unsigned page = made->address >> 9;

@@ -176,22 +176,25 @@ fn is_empty(unit: &Unit) -> bool {
     cells.into_iter().all(|cell| (unit.cell_tag(cell), unit.cell_word(cell)) == (Some(0), Some(0)))
 }
 
+/// A call that empties the cells, and its answer.
+type Emptying = fn(&mut Rig) -> Answer;
+
 /// "INIT and the map register stores empty all cells that the unit has and set the counter to 10o", and keep their number.
 #[test]
 fn emptied_and_no_fewer() {
-    let stores: [(&str, fn(&mut Rig)); 5] = [
-        ("INIT", |rig| assert_eq!(rig.unit.init().answer(), Answer::Done)),
-        ("KTUM", |rig| assert_eq!(rig.write_in(State::Source, 0o177614, 5).answer(), Answer::Done)),
-        ("KTEM", |rig| assert_eq!(rig.write_in(State::Source, 0o177616, 5).answer(), Answer::Done)),
-        ("KTUM's low byte", |rig| assert_eq!(store_byte(rig, 0o177614, 0).0, Answer::Done)),
-        ("KTEM's high byte", |rig| assert_eq!(store_byte(rig, 0o177617, 0).0, Answer::Done)),
+    let calls: [(&str, Emptying); 5] = [
+        ("INIT", |rig| rig.unit.init().answer()),
+        ("KTUM", |rig| rig.write_in(State::Source, 0o177614, 5).answer()),
+        ("KTEM", |rig| rig.write_in(State::Source, 0o177616, 5).answer()),
+        ("KTUM's low byte", |rig| store_byte(rig, 0o177614, 0).0),
+        ("KTEM's high byte", |rig| store_byte(rig, 0o177617, 0).0),
     ];
-    for (what, store) in stores {
+    for (what, call) in calls {
         for cells in BOTH {
             let mut rig = rig_with_pages(cells);
             read_pages(&mut rig, 1..=cells as u16 + 3);
             assert!(!is_empty(&rig.unit) && rig.unit.counter() == Some(0o13));
-            store(&mut rig);
+            assert_eq!(call(&mut rig), Answer::Done, "{what}");
             assert_eq!(rig.unit.cells(), Some(cells as usize), "{what}");
             assert!(is_empty(&rig.unit) && rig.unit.counter() == Some(0o10), "{what}");
         }
