@@ -107,7 +107,20 @@ size-back n h = go (eqb n 24) (eqb n 8) refl refl h
 
 -- There and back -------------------------------------------------------------------------------------------------------------------
 
--- The words from the cells on are a unit's cells, counter and end: what changes the core alone leaves them. The length is that of the words' type.
+-- the words behind the counter: the tags, the words and the rest
+behind-counter :
+    (w : List ℕ) → drop tagsPlace w ≡ take room (drop tagsPlace w) ++ take room (drop wordsPlace w) ++ drop lastPlace w
+behind-counter w =
+    let tags : List ℕ = take room (drop tagsPlace w) in
+    let words : List ℕ = take room (drop wordsPlace w) in
+    let from-words : words ++ drop lastPlace w ≡ drop wordsPlace w =
+    ap (λ (x : List ℕ). words ++ x) (sym (drop-drop room wordsPlace w)) ∙ take-append-drop room (drop wordsPlace w) in
+    let from-tags : tags ++ drop wordsPlace w ≡ drop tagsPlace w =
+    ap (λ (x : List ℕ). tags ++ x) (sym (drop-drop room tagsPlace w)) ∙ take-append-drop room (drop tagsPlace w) in
+    sym (append-assoc tags words (drop lastPlace w) ∙ ap (λ (x : List ℕ). tags ++ x) from-words ∙ from-tags)
+
+-- The words from the cells on are a unit's cells, with their number, the counter and the end: what changes the core alone leaves them. The length
+-- is that of the words' type.
 pub cells-stay : (w : List ℕ) → length w ≡ unitWords → isUnit w ≡ true → drop coreCount w ≡ cellsWords (decoded w .cells)
 unfolding decoded cellsOf listOf cellsWords elements
 cells-stay w long is =
@@ -115,15 +128,8 @@ cells-stay w long is =
     let tags : room ≤ length (drop tagsPlace w) = omega (arith, length-drop tagsPlace w, long) in
     let words : room ≤ length (drop wordsPlace w) = omega (arith, length-drop wordsPlace w, long) in
     let last : drop lastPlace w ≡ lastWord ∷ [] = elements-last w lastPlace 1 long ∙ ap (λ (x : ℕ). x ∷ []) (u .last) in
-    let from-words : drop wordsPlace w ≡ take room (drop wordsPlace w) ++ lastWord ∷ [] =
-    sym (take-append-drop room (drop wordsPlace w)) ∙ ap (λ (x : List ℕ). take room (drop wordsPlace w) ++ x) (drop-drop room wordsPlace w ∙ last) in
-    let from-tags : drop tagsPlace w ≡ take room (drop tagsPlace w) ++ drop wordsPlace w =
-    sym (take-append-drop room (drop tagsPlace w)) ∙ ap (λ (x : List ℕ). take room (drop tagsPlace w) ++ x) (drop-drop room tagsPlace w) in
-    rw (size-back (getD w countPlace 0) (u .count), tags-back room (drop tagsPlace w) (drop wordsPlace w) tags, words-back room (drop tagsPlace w) (drop wordsPlace w) words)
-    (elements-then w coreCount 2 tagsPlace refl (omega (arith, long))
-    ∙ ap (λ (x : List ℕ). getD w countPlace 0 ∷ getD w counterPlace 0 ∷ x)
-    (from-tags ∙ ap (λ (x : List ℕ). take room (drop tagsPlace w) ++ x) from-words
-    ∙ sym (append-assoc (take room (drop tagsPlace w)) (take room (drop wordsPlace w)) (lastWord ∷ []))))
+    rw (size-back (getD w countPlace 0) (u .count), tags-back room (drop tagsPlace w) (drop wordsPlace w) tags, words-back room (drop tagsPlace w) (drop wordsPlace w) words, ← last, ← behind-counter w)
+    (elements-then w coreCount 2 tagsPlace refl (omega (arith, long)))
 
 -- Words that hold a unit are the code of what they decode to. The bound, too, is that of the words' type.
 pub coded-decoded : (w : List ℕ) → length w ≡ unitWords → getD w 1 0 < 0o200000 → isUnit w ≡ true → coded (decoded w) ≡ w

@@ -1,6 +1,6 @@
 -- A unit stays a unit: no call of the rules makes words that hold a unit into words that are refused.
-use Prim.Native.Nat.{ℕ, _<_}
-use mathlib.Core.Path.{_≡_, refl, sym, subst}
+use Prim.Native.Nat.{ℕ, _+_, _<_}
+use mathlib.Core.Path.{_≡_, refl}
 use mathlib.Core.Bool.{Bool, true, false, _||_}
 use mathlib.Core.List.{List, [], _∷_}
 use native.Mathlib.Omega.{arith}
@@ -12,11 +12,11 @@ use Rattle.rules.specs.declared.Unit.{Unit}
 use Rattle.rules.specs.declared.Call.{Call}
 use Rattle.rules.specs.Memory.{Memory}
 use Rattle.rules.specs.Unit.{countOf, room}
-use Rattle.rules.specs.Calls.{callOf}
+use Rattle.rules.specs.Calls.{callOf, fresh}
 use Rattle.rules.proofs.Laws.StatusLaws.{packed-zeros}
 use Rattle.rules.proofs.Laws.CellsLaws.{all-there}
-use Rattle.rules.proofs.Sizes.{size-stays}
 use Rattle.rules.proofs.Promises.{UnitFit}
+use Rattle.rules.proofs.Demand3.Wellformed.{fresh-fit}
 use Rattle.rules.proofs.Demand3.Ranges.{InRange, call-in-range}
 use Rattle.coding.specs.Coding.{lastWord, waitNumber, flagNumber, isUnit, coreOf, listOf, cellsOf, decoded, coreWords, cellsWords, coded}
 use Rattle.coding.proofs.Cells.{length-cells, behind-cells}
@@ -40,22 +40,27 @@ one-of-two Size.Eight = refl
 one-of-two Size.TwentyFour = refl
 
 -- a unit whose counts and counter are in their ranges is not refused for its words
-pub range-is-unit : (u : Unit) → InRange (countOf (u .cells .size)) u → isUnit (coded u) ≡ true
+pub range-is-unit : {n : ℕ} (u : Unit) → InRange n u → isUnit (coded u) ≡ true
 unfolding isUnit coded coreWords cellsWords
-range-is-unit u h =
+range-is-unit {n} u h =
     let datos : u .core .fetch .datos < 3 = omega (arith, h .counts .datos) in
+    let below : u .cells .counter < 0o10 + countOf (u .cells .size) = rw (h .cells .size) (h .cells .below) in
     let accesses : u .core .fetch .accesses < 3 = omega (arith, h .counts .accesses) in
     let last = behind-cells room 0 (u .cells .list) (lastWord ∷ []) (h .cells .listed) in
-    simp (last, size-there (u .cells .size), one-of-two (u .cells .size), eq-eqb _ 0 (packed-zeros (u .core .ktcs)), lt-ltb _ 4 (wait-small (u .core .wait)), lt-ltb _ 3 datos, lt-ltb _ 3 accesses, lt-ltb _ 2 (flag-small (u .core .fetch .public)), le-leb _ _ (h .cells .from), lt-ltb _ _ (h .cells .below))
+    simp (last, size-there (u .cells .size), one-of-two (u .cells .size), eq-eqb _ 0 (packed-zeros (u .core .ktcs)), lt-ltb _ 4 (wait-small (u .core .wait)), lt-ltb _ 3 datos, lt-ltb _ 3 accesses, lt-ltb _ 2 (flag-small (u .core .fetch .public)), le-leb _ _ (h .cells .from), lt-ltb _ _ below)
 
 -- UnitFit holds of a fresh unit and after every call (`fresh-fit` and `call-fit` of the rules).
-pub fit-is-unit : (u : Unit) → UnitFit (countOf (u .cells .size)) u → isUnit (coded u) ≡ true
+pub fit-is-unit : {n : ℕ} (u : Unit) → UnitFit n u → isUnit (coded u) ≡ true
 fit-is-unit u h =
     range-is-unit u
     (record {
       counts = record { datos = omega (arith, h .core .datos, h .core .accesses); accesses = h .core .accesses };
       cells = h .cells .names;
     })
+
+-- so what making puts into the words is a unit, of either size
+pub fresh-is-unit : (s : Size) → isUnit (coded (fresh s)) ≡ true
+fresh-is-unit s = fit-is-unit (fresh s) (fresh-fit s)
 
 -- words that hold a unit have those ranges, whoever wrote them
 decoded-in-range : (w : List ℕ) → isUnit w ≡ true → InRange (countOf (decoded w .cells .size)) (decoded w)
@@ -77,6 +82,4 @@ decoded-in-range w is =
 -- so words that hold a unit hold one after every call
 pub unit-stays : (m : Memory) (w : List ℕ) (c : Call) → isUnit w ≡ true → isUnit (coded (callOf m (decoded w) c .reply .unit)) ≡ true
 unit-stays m w c is =
-    let after = callOf m (decoded w) c .reply .unit in
-    range-is-unit after
-    (subst (λ (s : Size). InRange (countOf s) after) (sym (size-stays m (decoded w) c)) (call-in-range m (decoded w) c (decoded-in-range w is)))
+    range-is-unit _ (call-in-range m (decoded w) c (decoded-in-range w is))
