@@ -1,4 +1,4 @@
--- What is proved of the rules. Promises.antt states demands 1 and 3 and Proved.antt gathers their proofs; the rooms hold the rest.
+-- What is proved of the rules. Promises.antt states demands 1 and 3 and the making of a unit, and Proved.antt gathers their proofs; the rooms hold the rest.
 pub mod Promises
 pub mod Proved
 pub mod Statements

@@ -1,4 +1,4 @@
--- The promises: demands 1 and 3 as statements about the rules, with the definitions that they need beside those of specs/; the last record lists them.
+-- The promises: demands 1 and 3, and the making of a unit, as statements about the rules, with the definitions that they need beside those of specs/; the last record lists them.
 -- They are proved in the rooms beside this file, and gathered in Proved.antt.
 use Prim.Native.Nat.{ℕ, _+_, _-_, _≤_, _<_}
 use mathlib.Core.Bool.{Bool, true, false, not, _&&_, _||_}
@@ -6,14 +6,14 @@ use mathlib.Core.Path.{_≡_}
 use mathlib.Core.Logic.{_≢_}
 use mathlib.Core.List.{List, [], _∷_, _++_}
 use lib.Dec.{eqb}
-use lib.ListN.{length, getD}
-use Rattle.rules.specs.Types.{Wait, Ktcs, Fetch, Core, Maps, Cell, Size, Making, Cells, Unit, Access, Call, Found, Target, Place, Entry, Looked, Due, Fault, Answer, Physical, Job}
+use lib.ListN.{length, getD, replicate}
+use Rattle.rules.specs.Types.{Wait, Ktcs, Fetch, Core, Maps, Cell, Size, Making, Cells, Unit, Access, Call, Found, Associative, Target, Place, Entry, Looked, Due, Fault, Answer, Physical, Job}
 use Rattle.rules.specs.Choice.{pick}
 use Rattle.rules.specs.Memory.{Memory}
-use Rattle.rules.specs.Unit.{countOf, sizeOf, room, there, cellAt, clearFetch}
+use Rattle.rules.specs.Unit.{countOf, sizeOf, room, there, keptCount, emptyCell, cellAt, clearKtcs, clearFetch}
 use Rattle.rules.specs.Status.{flagsClear}
-use Rattle.rules.specs.Registers.{ktic, ktad, ktdt, placeOf}
-use Rattle.rules.specs.Maps.{unpaged, unpagedAt, pageOf, physicalAt, residentBit, publicBit, writeBit, low9, execZero, execZeroEntry, walkOf, entryOf, tagOf, cellOf, looked, forgotten}
+use Rattle.rules.specs.Registers.{ktic, ktad, ktdt, placeOf, peeked}
+use Rattle.rules.specs.Maps.{unpaged, unpagedAt, pageOf, physicalAt, residentBit, publicBit, writeBit, low9, execZero, execZeroEntry, walkOf, entryOf, tagOf, cellOf, filled, looked, forgotten}
 use Rattle.rules.specs.Fetched.{isFetch, isDato, normal, noted}
 use Rattle.rules.specs.Steps.{wellShaped, dueOf, oddWord, watches, forbidden}
 use Rattle.rules.specs.Sequences.{violated, timedOut, trapTwice, vectorListed, idle}
@@ -399,6 +399,12 @@ InitLeaves = (m : Memory) (u : Unit) → InitKeeps m u (callOf m u Call.Init)
 
 -- Making, and how many cells there are ------------------------------------------------------------------------------------
 
+-- "a fresh unit (all zero, then INIT) with so many cells, counter 10o" (T-08); the room of cells that it hasn't got is empty too
+pub record FreshUnit (s : Size) (u : Unit) : Type 0 where
+  pub core : u .core ≡ record { ktcs = clearKtcs; kept = replicate keptCount 0; wait = Wait.Nothing; fetch = clearFetch }
+  pub maps : u .maps ≡ record { ktum = 0; ktem = 0 }
+  pub cells : u .cells ≡ record { size = s; list = replicate room emptyCell; counter = 0o10 }
+
 -- "8 and 24 give a fresh unit .. Every other number gives 30 and no unit." (T-08): the sizes by the number that is asked for
 pub record MadeOrRefused : Type 0 where
   pub eight : sizeOf 8 ≡ Making.With Size.Eight
@@ -406,7 +412,18 @@ pub record MadeOrRefused : Type 0 where
   pub other : (n : ℕ) → n ≢ 8 → n ≢ 24 → sizeOf n ≡ Making.OtherCount
   -- what is made has as many cells as were asked for
   pub count : (n : ℕ) (s : Size) → sizeOf n ≡ Making.With s → countOf s ≡ n
-  pub refusal : makingShown Making.OtherCount .number ≡ 30
+  pub made : (s : Size) → makingShown (Making.With s) ≡ record { number = 0; datum = 0; physical = Physical.Nowhere }
+  pub refused : makingShown Making.OtherCount ≡ record { number = 30; datum = 0; physical = Physical.Nowhere }
+  pub fresh-unit : (s : Size) → FreshUnit s (fresh s)
+
+-- "Cell i (from 0) is the one that the counter names at 10o + i" (T-08): the one that a finished walk fills, and the one whose scratchpad word
+-- then reads what it holds; where that word stands is `PadsByAddress` of HostView.antt
+pub record FilledAt (i tag w : ℕ) (k : Cells) : Type 0 where
+  pub cell : cellAt k i ≡ record { tag = tag; word = w }
+  pub read : peeked k (Associative.Pad i) ≡ w
+
+abbrev pub CellByCounter : Type 0
+CellByCounter = (k : Cells) (i tag w : ℕ) → k .counter ≡ 0o10 + i → i < length (there k) → FilledAt i tag w (filled k tag w)
 
 -- "The number of cells is set by making alone." (T-08)
 abbrev pub SizeStays : Type 0
@@ -450,6 +467,8 @@ pub record CellsFit (n : ℕ) (k : Cells) : Type 0 where
   pub empty : (i : ℕ) → cellAt k i .tag ≡ 0 → cellAt k i .word ≡ 0
   -- a tag is that of a page, by 7 bits, with 128 for a user's
   pub tags : (i : ℕ) → cellAt k i .tag < 256
+  -- in the room of cells that the unit hasn't got nothing stands
+  pub absent : (i : ℕ) → n ≤ i → getD (k .list) i emptyCell ≡ emptyCell
 
 -- the wait agrees with FCN and UM (`record {}` asks nothing)
 abbrev pub WaitFits : Wait → ℕ → Bool → Type 0
@@ -531,6 +550,7 @@ pub record Promises : Type 0 where
   pub init-leaves : InitLeaves
   -- Making
   pub made-or-refused : MadeOrRefused
+  pub cell-by-counter : CellByCounter
   pub size-stays : SizeStays
   pub absent-unseen : AbsentUnseen
   -- Demand 3

@@ -6,20 +6,22 @@ use mathlib.Core.List.{List, map}
 use mathlib.Core.Logic.{_≢_}
 use native.Mathlib.Omega.{arith}
 use lib.Dec.{eqb}
-use lib.ListN.{getD, set}
+use lib.ListN.{getD, set, replicate, length-replicate}
+use lib.Seq.{getD-set-same}
 use borrow.Author.Tests.{eqb-true, ne-eqb}
 use Rattle.rules.specs.Types.{Core, Maps, Cell, Size, Making, Cells, Unit, Call, Found, Associative, Part, Walk, Entry, Looked, Effect, Outcome, Ran}
 use Rattle.rules.specs.Choice.{pick}
 use Rattle.rules.specs.Memory.{Memory}
-use Rattle.rules.specs.Unit.{countOf, sizeOf, there, emptyCell, emptied}
+use Rattle.rules.specs.Unit.{countOf, sizeOf, room, there, emptyCell, cellAt, emptied, initCore, zeroUnit}
 use Rattle.rules.specs.Registers.{foundFrom, peeked, cellStored, padStored}
 use Rattle.rules.specs.Maps.{execZero, execZeroEntry, walkOf, tagOf, tagIn, cellOf, stepped, filled, filledBy, missed, soughtIn, looked, cellForgotten, forgotten}
 use Rattle.rules.specs.Program.{Prog, done, ask, peek, run}
+use Rattle.rules.specs.Order.{outcome}
 use Rattle.rules.specs.Answers.{shownAs, makingShown}
-use Rattle.rules.specs.Calls.{called, mapsAfter, cellsAfter, memoryAfter, settled, callOf}
+use Rattle.rules.specs.Calls.{called, initOf, mapsAfter, cellsAfter, memoryAfter, settled, callOf, fresh}
 use Rattle.rules.proofs.Laws.Choices.{picked}
 use Rattle.rules.proofs.Laws.CellsLaws.{there-filled, there-stored, there-forgotten, there-emptied}
-use Rattle.rules.proofs.Promises.{MadeOrRefused, SizeStays, Alike, AlikeAfter, AbsentUnseen}
+use Rattle.rules.proofs.Promises.{FreshUnit, MadeOrRefused, CellByCounter, SizeStays, Alike, AlikeAfter, AbsentUnseen}
 
 -- Making -------------------------------------------------------------------------------------------------------------------
 
@@ -33,6 +35,10 @@ made-count n s = go (eqb n 8) refl (eqb n 24) refl
     go false t true u e = let z : Size.TwentyFour ≡ s = cc in rw (← z) (sym (eqb-true n 24 u))
     go false t false u e = absurd (let z : _≡_ {A = ℕ} 0 1 = cc in omega arith)
 
+made-fresh : (s : Size) → FreshUnit s (fresh s)
+unfolding fresh callOf settled run called initOf outcome mapsAfter cellsAfter zeroUnit initCore emptied
+made-fresh s = record { core = refl; maps = refl; cells = ap (λ (n : ℕ). record { size = s; list = replicate n emptyCell; counter = 0o10 }) (length-replicate room emptyCell) }
+
 pub made-or-refused : MadeOrRefused
 unfolding sizeOf makingShown shownAs pick
 made-or-refused =
@@ -41,8 +47,21 @@ made-or-refused =
       twenty-four = refl;
       other = λ n a b. simp (ne-eqb n 8 a, ne-eqb n 24 b);
       count = made-count;
-      refusal = refl;
+      made = λ s. refl;
+      refused = refl;
+      fresh-unit = made-fresh;
     }
+
+-- The cell that the counter names ------------------------------------------------------------------------------------------
+
+pub cell-by-counter : CellByCounter
+unfolding peeked
+cell-by-counter k i tag w e inside =
+    let named : k .counter - 0o10 ≡ i = omega (arith, e) in
+    let held : cellAt (filled k tag w) i ≡ record { tag = tag; word = w } =
+    ap (λ (l : List Cell). getD l i emptyCell) (there-filled k tag w)
+    ∙ rw named (getD-set-same (there k) i (record { tag = tag; word = w }) emptyCell inside) in
+    record { cell = held; read = ap (λ (c : Cell). c .word) held }
 
 -- The size stays -----------------------------------------------------------------------------------------------------------
 

@@ -10,7 +10,7 @@ use Rattle.rules.proofs.Computed.Opened.{opened}
 use Rattle.rules.proofs.Computed.Units.{twentyFour}
 use Rattle.rules.proofs.Computed.Starred.{lookedFor}
 
--- the pages from the first of these numbers on
+-- one page more than there are cells
 abbrev pub pages1to25 : List ℕ
 pages1to25 =
     1 ∷ 2 ∷ 3 ∷ 4 ∷ 5 ∷ 6 ∷ 7 ∷ 8 ∷ 9 ∷ 10 ∷ 11 ∷ 12 ∷ 13 ∷ 14 ∷ 15 ∷ 16 ∷ 17 ∷ 18 ∷ 19 ∷ 20 ∷ 21 ∷ 22 ∷ 23 ∷ 24 ∷ 25 ∷ []

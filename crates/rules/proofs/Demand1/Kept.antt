@@ -20,7 +20,7 @@ use Rattle.rules.specs.Fetched.{isFetch, isDato, kindOf, oneMore, counte
 use Rattle.rules.specs.Sequences.{serviceAwaited, flagged, startEnded, addressKept, linesKept, faultData, violated, timedOut}
 use Rattle.rules.specs.Answers.{shownAs, faultShown, shown}
 use Rattle.rules.proofs.Laws.Choices.{both-true, picked}
-use Rattle.rules.proofs.Laws.CellsLaws.{there-filled, there-forgotten}
+use Rattle.rules.proofs.Laws.CellsLaws.{there-filled, there-forgotten, empty-forgotten}
 use Rattle.rules.proofs.Promises.{StatesOnly, Step4Status, Step4Registers, Step4Counts, Step4Keeps, Step4Leaves, Step6Keeps, Step6Leaves, ViolationKeeps, ForgottenKeeps}
 
 -- Step 4 -----------------------------------------------------------------------------------------------------------------
@@ -327,10 +327,6 @@ violated-keeps c q window f =
     }
 
 -- The emptying of a cell -------------------------------------------------------------------------------------------------
-
-empty-forgotten : (tag : ℕ) → cellForgotten tag emptyCell ≡ emptyCell
-unfolding cellForgotten
-empty-forgotten tag = picked (λ (h : Cell). h ≡ emptyCell) (holds tag emptyCell) _ _ (λ e. refl) (λ e. refl)
 
 other-forgotten : (tag : ℕ) (h : Cell) → h .tag ≢ tag → cellForgotten tag h ≡ h
 unfolding cellForgotten holds pick

@@ -2,26 +2,27 @@
 use mathlib.Core.Path.{_≡_, refl, sym, ap, _∙_}
 use mathlib.Core.Logic.{_⊎_, inl, inr, ⊎-elim}
 use mathlib.Core.Bool.{Bool, false}
-use mathlib.Core.List.{List, [], _∷_}
-use Prim.Native.Nat.{ℕ, _-_, _<_}
+use mathlib.Core.List.{List, [], _∷_, map}
+use Prim.Native.Nat.{ℕ, _-_, _≤_, _<_}
 use native.Mathlib.Omega.{arith}
 use lib.Dec.{eqb}
-use lib.ListN.{length, length-replicate}
+use lib.ListN.{length, getD, set, length-replicate, List·getD-map, List·getD-eq-default}
 use borrow.Author.Tests.{eqb-false}
 use Rattle.rules.specs.Types.{Maps, Cell, Size, Cells, Unit, Call, Found, Part, Walk, Effect, Outcome, Looked}
+use Rattle.rules.specs.Choice.{pick}
 use Rattle.rules.specs.Memory.{Memory}
 use Rattle.rules.specs.Unit.{countOf, room, there, zeroUnit, emptyCell, cellAt, emptied}
 use Rattle.rules.specs.Registers.{cellStored, padStored}
-use Rattle.rules.specs.Maps.{execZero, walkOf, tagOf, tagIn, cellOf, filled, filledBy, missed, soughtIn, looked, holds, forgotten}
+use Rattle.rules.specs.Maps.{execZero, walkOf, tagOf, tagIn, cellOf, filled, filledBy, missed, soughtIn, looked, holds, cellForgotten, forgotten}
 use Rattle.rules.specs.Program.{Prog, run}
 use Rattle.rules.specs.Order.{outcome}
 use Rattle.rules.specs.Calls.{called, initOf, cellsAfter, settled, callOf, fresh}
 use Rattle.rules.specs.Runs.{Turn, unitAfter, stationAfter}
 use Rattle.rules.proofs.Laws.Choices.{picked}
-use Rattle.rules.proofs.Laws.Lists.{getD-set-either, set-cases}
+use Rattle.rules.proofs.Laws.Lists.{getD-set-either, getD-replicate-default, set-cases}
 use Rattle.rules.proofs.Laws.Pages.{tagOf-below, tag-other}
 use Rattle.rules.proofs.Laws.Counter.{emptied-names, forgotten-names, padStored-names, filled-names}
-use Rattle.rules.proofs.Laws.CellsLaws.{some-cells, all-there, there-filled, there-stored, empty-tag, missing-has-none, cell-emptied, cell-forgotten}
+use Rattle.rules.proofs.Laws.CellsLaws.{some-cells, all-there, there-filled, there-stored, empty-tag, empty-forgotten, missing-has-none, cell-emptied, cell-forgotten}
 use Rattle.rules.proofs.Laws.CoreLaws.{initCore-fits}
 use Rattle.rules.proofs.Demand3.Always.{Always, ends, asks, peeks-at}
 use Rattle.rules.proofs.Demand3.Endings.{Ending, call-ends}
@@ -47,6 +48,10 @@ unfolding cellStored
 cellStored-fit c p v h =
     picked CellFit (eqb (c .tag) 0) _ _ (λ t. h) (λ t. record { empty = λ e. absurd (eqb-false (c .tag) 0 t e); tag = h .tag })
 
+cellStored-empty : (p : Part) (v : ℕ) → cellStored emptyCell p v ≡ emptyCell
+unfolding cellStored emptyCell pick
+cellStored-empty p v = refl
+
 -- The cells ------------------------------------------------------------------------------------------------------------------------
 
 module _ (n : ℕ) where
@@ -58,6 +63,7 @@ module _ (n : ℕ) where
         once = λ i j e o. absurd (o (ap (λ (c : Cell). c .tag) (cell-emptied k i) ∙ empty-tag));
         empty = λ i. rw (cell-emptied k i) (emptyCell-fit .empty);
         tags = λ i. rw (cell-emptied k i) (emptyCell-fit .tag);
+        absent = λ i past. getD-replicate-default (length (k .list)) i emptyCell;
       }
 
   module _ (k : Cells) (h : CellsFit n k) where
@@ -66,6 +72,16 @@ module _ (n : ℕ) where
 
     some-cell : 0 < n
     some-cell = omega (arith, h .names .from, h .names .below)
+
+    -- past the last cell there is an empty one
+    none-there : (i : ℕ) → n ≤ i → cellAt k i ≡ emptyCell
+    none-there i past = List·getD-eq-default (there k) emptyCell (rw (h .names .number) past)
+
+    -- a store in the room of cells that the unit has leaves the rest of it as it was, and so does one of an empty cell
+    still-absent :
+        (j : ℕ) (c : Cell) → (n ≤ j → c ≡ emptyCell) → (i : ℕ) → n ≤ i → getD (set (k .list) j c) i emptyCell ≡ emptyCell
+    still-absent j c e i past =
+        ⊎-elim (λ a. a .1 ∙ e (rw (← a .0) past)) (λ a. a ∙ h .absent i past) (set-cases (k .list) i j c emptyCell)
 
     -- Cells that hold no page in another place than before hold none twice.
     once-still :
@@ -84,10 +100,16 @@ module _ (n : ℕ) where
           once = once-still (forgotten k tag) same;
           empty = λ i. fit i .empty;
           tags = λ i. fit i .tag;
+          absent = gone;
         }
       where
         fit : (i : ℕ) → CellFit (cellAt (forgotten k tag) i)
         fit i = rw (cell-forgotten k tag i) (picked CellFit (holds tag (cellAt k i)) _ _ (λ t. emptyCell-fit) (λ t. cell-fit i))
+
+        gone : (i : ℕ) → n ≤ i → getD (map (cellForgotten tag) (k .list)) i emptyCell ≡ emptyCell
+        gone i past =
+            ap (getD (map (cellForgotten tag) (k .list)) i) (sym (empty-forgotten tag)) ∙ List·getD-map (cellForgotten tag) (k .list) i emptyCell
+            ∙ ap (cellForgotten tag) (h .absent i past) ∙ empty-forgotten tag
 
         same : (i : ℕ) → (cellAt (forgotten k tag) i .tag ≡ 0 → ⊥) → cellAt (forgotten k tag) i .tag ≡ cellAt k i .tag
         same i =
@@ -103,6 +125,7 @@ module _ (n : ℕ) where
           once = once-still (padStored k i p v) (λ j z. same j);
           empty = λ j. fit j .empty;
           tags = λ j. fit j .tag;
+          absent = still-absent i _ (λ past. ap (λ (c : Cell). cellStored c p v) (none-there i past) ∙ cellStored-empty p v);
         }
       where
         fit : (j : ℕ) → CellFit (cellAt (padStored k i p v) j)
@@ -149,6 +172,7 @@ module _ (n : ℕ) where
             once = filled-once w;
             empty = λ i. fit i .empty;
             tags = λ i. fit i .tag;
+            absent = still-absent (k .counter - 0o10) _ (λ past. absurd (omega (arith, past, h .names .from, h .names .below)));
           }
         where
           fit : (i : ℕ) → CellFit (cellAt (filled k tag w) i)

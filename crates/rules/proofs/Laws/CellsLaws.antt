@@ -59,6 +59,10 @@ pub empty-tag : emptyCell .tag ≡ 0
 unfolding emptyCell
 empty-tag = refl
 
+pub empty-forgotten : (tag : ℕ) → cellForgotten tag emptyCell ≡ emptyCell
+unfolding cellForgotten
+empty-forgotten tag = pick-same (holds tag emptyCell) emptyCell
+
 tag-at : (k : Cells) (i : ℕ) → getD (map tagIn (there k)) i (tagIn emptyCell) ≡ cellAt k i .tag
 unfolding tagIn
 tag-at k i = List·getD-map tagIn (there k) i emptyCell
@@ -86,7 +90,7 @@ unfolding cellForgotten
 cell-forgotten k tag i =
     rw (there-forgotten k tag)
     (subst (λ (d : Cell). getD (map (cellForgotten tag) (there k)) i d ≡ cellForgotten tag (cellAt k i))
-    (pick-same (holds tag emptyCell) emptyCell) (List·getD-map (cellForgotten tag) (there k) i emptyCell))
+    (empty-forgotten tag) (List·getD-map (cellForgotten tag) (there k) i emptyCell))
 
 -- a cell with the tag of a page other than exec page 0 holds it
 pub page-held : (tag : ℕ) (h : Cell) → h .tag ≡ tag → (h .tag ≡ 0 → ⊥) → holds tag h ≡ true

@@ -1,8 +1,8 @@
--- Where the scratchpad words stand, for any number of cells: each word by both of its bytes, and past the last nothing.
+-- Where the scratchpad words stand: the table of addresses over any number of them, and what lies there for a unit of either size.
 use Prim.Native.Nat.{ℕ, zero, suc, _+_, _-_, _*_, _/_, _%_, _≤_, _<_}
 use mathlib.Core.Path.{_≡_, refl, sym, ap, _∙_}
 use mathlib.Core.Bool.{true, false}
-use mathlib.Core.List.{List, [], _∷_, _++_}
+use mathlib.Core.List.{List, [], _∷_, _++_, append-nil}
 use native.Mathlib.Omega.{arith}
 use lib.Dec.{eqb, ltb, leb}
 use lib.ListN.{take}
@@ -76,9 +76,5 @@ module _ (s : Size) (len : ℕ) (good : goodLength len ≡ true) where
   unfolding placeFound foundFrom
   past-the-pads at h g =
       among-pads at (omega (arith, h)) g
-      ∙ ap (λ (l : List ℕ). placeFound (foundFrom 11 l (evenOf at))) (sym (nothing-after (wordsFrom 0o777620 (countOf s))))
+      ∙ ap (λ (l : List ℕ). placeFound (foundFrom 11 l (evenOf at))) (sym (append-nil (wordsFrom 0o777620 (countOf s))))
       ∙ ap placeFound (past-words 11 0o777620 (countOf s) (evenOf at) [] h)
-    where
-      nothing-after : (l : List ℕ) → l ++ [] ≡ l
-      nothing-after [] = refl
-      nothing-after (x ∷ xs) = ap (λ (l : List ℕ). x ∷ l) (nothing-after xs)
