@@ -9,7 +9,7 @@ use lib.Seq.{take-all}
 use borrow.Author.Tests.{lt-ltb, le-ltb}
 use Rattle.rules.specs.Choice.{pick}
 use Rattle.fieldtext.specs.Cut.{fields, headOf, fieldsAt}
-use Rattle.fieldtext.specs.Number.{isNumber, worth, numberOf}
+use Rattle.fieldtext.specs.Number.{areDigits, isNumber, worth, numberOf}
 use Rattle.fieldtext.specs.Reading.{Took}
 use Rattle.fieldtext.specs.declared.Number.the-variants.{Value, NotOne}
 use Rattle.fieldtext.specs.declared.Reading.{Reading}
@@ -17,7 +17,7 @@ use Rattle.fieldtext.proofs.Scan.{fields-split, fields-rest, head-take}
 
 -- past the end there is no field, and no field is no number
 pub took-past : (s : List ℕ) (b : Reading) → length s < b .at → Took s b (record { at = b .at; good = false; value = 0 })
-unfolding fieldsAt isNumber pick
+unfolding fieldsAt isNumber areDigits pick
 took-past s b h =
     record { left = simp (lt-ltb _ _ h); good = simp (lt-ltb _ _ h, and-false); value = simp (lt-ltb _ _ h) }
 

@@ -1,11 +1,17 @@
-// A line's fields, which are cut at each tab, and the numbers in them.
+// A line's fields, which are cut at each tab, and the numbers in them; and a count, which is read digit by digit like them.
 ghost use mathlib.Core.Path.{_≡_};
 ghost use mathlib.Core.Bool.{_&&_};
 ghost use Prim.Native.Nat.{_≤_};
 ghost use lib.ListN.{length};
-ghost use Rattle.fieldtext.specs.Number.{octalDigit, numberOf};
+ghost use Rattle.fieldtext.specs.Number.{isDigit, digitsOf, numberOf, countOf};
 ghost use Rattle.fieldtext.specs.Cut.{headOf, fieldsAt, none};
 ghost use Rattle.fieldtext.specs.Reading.{Took};
+
+// What digits say: bytes that are no digits of their base, none or too many say nothing.
+pub enum Figures {
+    Worth(u64),
+    Other,
+}
 
 // What a field says, read as a number.
 pub enum Number {
@@ -36,37 +42,64 @@ pub fn field_end(s: &[u8]) -> usize
     i
 }
 
-fn octal_digit(b: u8) -> bool
-    ensures { λ r. ⌜ r ≡ octalDigit b ⌝ }
+// The digits of a base up to ten are the bytes from 48 on.
+fn is_digit(b: u8, base: u64) -> bool
+    requires { ⌜ base ≤ 10 ⌝ }
+    ensures { λ r. ⌜ r ≡ isDigit base b ⌝ }
 {
-    if 47 < b { b < 56 } else { false }
+    if 47 < b {
+        (b as u64) < 48 + base
+    } else {
+        false
+    }
+}
+
+// What 1 to `most` digits of a base say.
+fn read_digits(bytes: &[u8], base: u64, most: usize) -> Figures
+    requires { ⌜ (base ≤ 10) × (most ≤ 9) ⌝ }
+    ensures { λ r. ⌜ r ≡ digitsOf base most (now (bytes .entry)) ⌝ }
+{
+    if bytes.len() == 0 {
+        return Figures::Other;
+    }
+    if most < bytes.len() {
+        return Figures::Other;
+    }
+    let mut value = 0;
+    let mut passed = 0;
+    while passed < bytes.len() {
+        let b = bytes[passed];
+        if !is_digit(b, base) {
+            return Figures::Other;
+        }
+        value = value * base + (b - 48) as u64;
+        passed += 1;
+    }
+    Figures::Worth(value)
 }
 
 // "Numbers are 1-6 octal digits up to 177777."
 pub fn octal(field: &[u8]) -> Number
     ensures { λ r. ⌜ r ≡ numberOf (now (field .entry)) ⌝ }
 {
-    if field.len() == 0 {
-        return Number::NotOne;
-    }
-    if 6 < field.len() {
-        return Number::NotOne;
-    }
-    let mut value: u32 = 0;
-    let mut i = 0;
-    while i < field.len() {
-        let b = field[i];
-        if !octal_digit(b) {
-            return Number::NotOne;
+    let read = read_digits(field, 8, 6);
+    match read {
+        Figures::Worth(value) => {
+            if value < 65536 {
+                Number::Value(value as u16)
+            } else {
+                Number::NotOne
+            }
         }
-        value = value * 8 + (b - 48) as u32;
-        i += 1;
+        Figures::Other => Number::NotOne,
     }
-    if value < 65536 {
-        Number::Value(value as u16)
-    } else {
-        Number::NotOne
-    }
+}
+
+// A count: "N is 1 to 9 decimal digits." (T-08)
+pub fn count(bytes: &[u8]) -> Figures
+    ensures { λ r. ⌜ r ≡ countOf (now (bytes .entry)) ⌝ }
+{
+    read_digits(bytes, 10, 9)
 }
 
 // Reads one more number after those that were read before.

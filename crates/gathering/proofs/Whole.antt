@@ -12,7 +12,7 @@ use borrow.Author.Tests.{le-ltb, lt-ltb, ltb-true, ltb-false, eqb-true}
 use Rattle.rules.specs.Choice.{pick}
 use Rattle.rules.proofs.Laws.Choices.{pick-same, picked}
 use Rattle.fieldtext.specs.Cut.{onto, fields, headOf, fieldsAt}
-use Rattle.fieldtext.specs.Number.{allOctal, worth, isNumber}
+use Rattle.fieldtext.specs.Number.{allDigits, areDigits, worth, isNumber}
 use Rattle.fieldtext.proofs.Scan.{fields-split}
 use Rattle.fieldtext.proofs.Digits.{and-left, and-right}
 use Rattle.linetext.specs.Line.{allNumbers, numbers, storeOf, accessOf, trapOf, aloneOf, byLetter, byName, fromFields, lineOf}
@@ -44,9 +44,9 @@ total-fields (b ∷ s) = by (eqb b 9) (total-fields s)
         ∙ ap suc (ap total (sym split) ∙ e)
 
 number-short : (f : List ℕ) → isNumber f ≡ true → length f < 7
-unfolding isNumber
+unfolding isNumber areDigits
 number-short f e =
-    let two = and-left (ltb 0 (length f) && ltb (length f) 7) (allOctal f) (and-left (ltb 0 (length f) && ltb (length f) 7 && allOctal f) (ltb (worth f) 65536) e) in
+    let two = and-left (ltb 0 (length f) && ltb (length f) 7) (allDigits 8 f) (and-left (areDigits 8 6 f) (ltb (worth f) 65536) e) in
     ltb-true (length f) 7 (and-right (ltb 0 (length f)) (ltb (length f) 7) two)
 
 numbers-short : (fs : List (List ℕ)) → allNumbers fs ≡ true → total fs ≤ 7 * length fs

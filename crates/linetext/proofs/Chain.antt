@@ -12,7 +12,7 @@ use lib.Dec.{ltb, eqb, eqb·suc-zero, eqb·zero-suc, eqb·suc-suc}
 use lib.Seq.{getD-drop, drop-drop, getD-take}
 use borrow.Author.Tests.{ne-eqb}
 use Rattle.fieldtext.specs.Cut.{headOf, fieldsAt, none}
-use Rattle.fieldtext.specs.Number.{isNumber, worth}
+use Rattle.fieldtext.specs.Number.{areDigits, isNumber, worth}
 use Rattle.fieldtext.specs.Reading.{Took}
 use Rattle.fieldtext.specs.declared.Reading.{Reading}
 use Rattle.fieldtext.proofs.Scan.{fields-split, head-take, none-left}
@@ -31,7 +31,7 @@ swap false true c = refl
 swap false false c = refl
 
 good-numbers : (n : ℕ) (fs : List (List ℕ)) → good n fs ≡ numbers n fs
-unfolding good none numbers allNumbers isNumber
+unfolding good none numbers allNumbers isNumber areDigits
 good-numbers zero [] = refl
 good-numbers zero (f ∷ fs) = simp eqb·suc-zero
 good-numbers (suc n) [] = simp eqb·zero-suc

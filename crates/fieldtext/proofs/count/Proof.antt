@@ -1,0 +1,15 @@
+-- `fieldtext::count` meets its contract.
+use borrow.Author.Needs.{needs}
+use Rattle.fieldtext.specs.Number.{countOf}
+use Rattle.fieldtext.proofs.count.Statement.{statement}
+use Rattle.fieldtext.proofs.count.Tie as tie
+
+read-digits-requires : tie.Need-read-digits-requires
+read-digits-requires c κs = search needs
+
+returns : tie.Need-returns
+unfolding countOf
+returns c = c .read-digits .ensures
+
+pub count-spec : {M : Type 1} → statement M
+count-spec = tie.close (tie.spec read-digits-requires returns)
