@@ -1,4 +1,4 @@
--- The theorem of the output: what is printed byte by byte is the whole output of the whole input, whatever the input.
+-- The theorem of the output: what is printed byte by byte is the whole output of the whole input, whatever the input and the unit's size.
 use Prim.Native.Nat.{ℕ, _+_, _<_}
 use mathlib.Core.Path.{_≡_, refl, ap, sym, _∙_}
 use mathlib.Core.Bool.{Bool, true, false}
@@ -6,6 +6,7 @@ use mathlib.Core.List.{List, [], _∷_, _++_, append-nil}
 use native.Mathlib.Omega.{arith}
 use lib.Dec.{eqb, ltb}
 use borrow.Author.Tests.{ne-eqb}
+use Rattle.rules.specs.declared.Size.{Size}
 use Rattle.rules.specs.Choice.{pick}
 use Rattle.rules.specs.Memory.{Memory}
 use Rattle.rules.proofs.Laws.Choices.{picked}
@@ -118,7 +119,7 @@ from-bytes (x ∷ s) m b p = by (λ m b p. from-bytes s m b p) (eqb x 10) refl
         ∙ rest m b (p ++ x ∷ [])
         ∙ ap (printed m b) (sym (other-joins p x s e))
 
--- whatever the input
-pub whole-output : (input : List ℕ) → headerOf ++ printedFrom benchMemory freshProgress input ≡ outputOf input
+-- whatever the input, and with a unit of either size
+pub whole-output : (s : Size) (input : List ℕ) → headerOf ++ printedFrom benchMemory (freshProgress s) input ≡ outputOf s input
 unfolding outputOf freshProgress gathered pushAll linesFrom
-whole-output input = ap (λ (s : List ℕ). headerOf ++ s) (from-bytes input benchMemory freshBench [])
+whole-output s input = ap (λ (o : List ℕ). headerOf ++ o) (from-bytes input benchMemory (freshBench s) [])

@@ -2,6 +2,7 @@
 use Prim.Native.Nat.{ℕ}
 use mathlib.Core.List.{List, [], _∷_, _++_}
 use lib.Dec.{eqb}
+use Rattle.rules.specs.declared.Size.{Size}
 use Rattle.rules.specs.Choice.{pick}
 use Rattle.rules.specs.Memory.{Memory}
 use Rattle.gathering.specs.Gather.{nothingYet, pushOf, lineIn}
@@ -15,8 +16,8 @@ pub record Stepped : Type 0 where
   pub memory : Memory
   pub prints : List ℕ
 
-unfoldable pub freshProgress : Progress
-freshProgress = record { bench = freshBench; gather = nothingYet }
+unfoldable pub freshProgress : Size → Progress
+freshProgress s = record { bench = freshBench s; gather = nothingYet }
 
 -- the line is done, and the next one starts
 unfoldable pub lineEnded : Done → Stepped

@@ -3,6 +3,7 @@ use Prim.Native.Nat.{ℕ}
 use mathlib.Core.List.{List, [], _∷_, _++_}
 use lib.ListN.{replicate}
 use lib.Dec.{eqb}
+use Rattle.rules.specs.declared.Size.{Size}
 use Rattle.rules.specs.Choice.{pick}
 use Rattle.rules.specs.Memory.{Memory}
 use Rattle.rules.specs.Calls.{fresh}
@@ -22,13 +23,13 @@ unfoldable pub printed : Memory → Bench → List (List ℕ) → List ℕ
 printed m b [] = []
 printed m b (l ∷ ls) = lineDone m b (lineOf l) .prints ++ printed (lineDone m b (lineOf l) .memory) (lineDone m b (lineOf l) .bench) ls
 
--- "It has 65,536 bytes of zeroed memory and a fresh unit."
+-- "It has 65,536 bytes of zeroed memory and a fresh unit.", which is of either size
 unfoldable pub benchMemory : Memory
 benchMemory = replicate 65536 0
 
-unfoldable pub freshBench : Bench
-freshBench = record { unit = fresh; calls = 0; lines = 0 }
+unfoldable pub freshBench : Size → Bench
+freshBench s = record { unit = fresh s; calls = 0; lines = 0 }
 
 -- the header is there even when the input is empty
-unfoldable pub outputOf : List ℕ → List ℕ
-outputOf input = headerOf ++ printed benchMemory freshBench (linesOf input)
+unfoldable pub outputOf : Size → List ℕ → List ℕ
+outputOf s input = headerOf ++ printed benchMemory (freshBench s) (linesOf input)

@@ -1,6 +1,7 @@
 // The bench program's work, from bytes of input to bytes of output; reading and writing are left to the program.
 use gathering::Gather;
 use rowtext::Text;
+use rules::Size;
 use tally::Bench;
 ghost use mathlib.Core.Path.{_≡_};
 ghost use Rattle.tally.specs.Tally.{Holds};
@@ -18,12 +19,12 @@ pub struct Said {
     pub text: Text,
 }
 
-// The bench before its first byte.
-pub fn start() -> Progress
-    ensures { λ r. ⌜ r ≡ freshProgress ⌝ }
+// The bench before its first byte, with a fresh unit of either size.
+pub fn start(size: Size) -> Progress
+    ensures { λ r. ⌜ r ≡ freshProgress size ⌝ }
 {
     let bench = Bench {
-        unit: unit::fresh(),
+        unit: unit::fresh(size),
         calls: 0,
         lines: 0,
     };
