@@ -1,9 +1,13 @@
 // The bench program: reads lines from standard input to its end, and prints what each call of the unit answers.
-// The work is that of `benchwork`; here is only what no contract can speak of, reading and writing.
+// The work is that of `arguments` and `benchwork`; here is only what no contract can speak of, reading and writing.
+use arguments::Asked;
 use benchwork::Progress;
+use libc::STDERR_FILENO;
 use libc::STDIN_FILENO;
 use libc::STDOUT_FILENO;
 use rowtext::Text;
+use rules::Making;
+use rules::Size;
 
 // What one read of the input leaves, and whether there is more to come.
 struct Took {
@@ -79,8 +83,8 @@ fn turn(s: Progress, m: &mut [u8]) -> Took {
 }
 
 // The count of turns only shows that the loop ends: no input is that long.
-fn run(m: &mut [u8]) {
-    let mut progress = benchwork::start();
+fn run(size: Size, m: &mut [u8]) {
+    let mut progress = benchwork::start(size);
     let mut turns = u64::MAX;
     while 0 < turns {
         let t = turn(progress, m);
@@ -98,9 +102,35 @@ fn run(m: &mut [u8]) {
     }
 }
 
-fn main() {
+// The whole output of the whole input, with a unit of that size.
+fn work(size: Size) {
     let mut memory = [0u8; 65536];
     if write(&rowtext::header()) {
-        run(&mut memory);
+        run(size, &mut memory);
+    }
+}
+
+// A unit that is not made is told before anything is read or printed.
+fn make(making: Making) {
+    match making {
+        Making::With(size) => work(size),
+        Making::OtherCount => {
+            io::write_all(STDERR_FILENO, &arguments::refusal());
+        }
+    }
+}
+
+// An argument that is longer than its 16 bytes reads as an empty one: it is no option and no count either.
+fn main() {
+    let mut option = [0u8; 16];
+    let option_end = os::arg(1, &mut option);
+    let mut count = [0u8; 16];
+    let count_end = os::arg(2, &mut count);
+    let asked = arguments::asked_for(os::arg_count(), &option[..option_end], &count[..count_end]);
+    match asked {
+        Asked::Unit(making) => make(making),
+        Asked::BadUsage => {
+            io::write_all(STDERR_FILENO, &arguments::usage());
+        }
     }
 }
