@@ -30,7 +30,7 @@ returns c =
 returns-2 : tie.Need-returns-2 Inv-loop μ-loop
 returns-2 c =
     let a = c .before .before .before .args in
-    sym (digits-many (a .base) (a .most) (a .bytes .now) (c .if2 .taken))
+    sym (digits-many (a .base) (a .most) (a .bytes .now) (omega arith))
 
 loop-holds : tie.Need-loop-holds Inv-loop μ-loop
 loop-holds c = search needs
