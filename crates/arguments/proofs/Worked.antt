@@ -1,5 +1,4 @@
 -- What some arguments ask for, worked by the definition.
-use Prim.Native.Nat.{ℕ}
 use Prim.Native.String.{String}
 use mathlib.Core.Path.{_≡_, refl}
 use mathlib.Core.List.{[]}

@@ -5,7 +5,6 @@ use Prim.Native.Char.{code}
 use Prim.Native.String.{String, [] as []ˢ, _∷_ as _∷ˢ_}
 use mathlib.Core.Path.{_≡_, refl}
 use mathlib.Core.List.{List, [], _∷_}
-use lib.ListN.{length}
 use Rattle.fieldtext.specs.Cut.{fields, onto}
 use Rattle.fieldtext.specs.Number.{isDigit, allDigits, worthFrom, areDigits, worth, isNumber}
 use Rattle.linetext.specs.Line.{allNumbers, numbers, storeOf, accessOf, trapOf, aloneOf, byLetter, byName, fromFields, lineOf}
