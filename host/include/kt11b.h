@@ -15,7 +15,8 @@
  *
  * A unit has 8 or 24 associative cells, and as many words for both. In those of a unit with 8 there is room for the 16 cells that
  * it hasn't got: words 26 to 41, counted from 0, for their tags and words 50 to 65 for their scratchpad words. kt11b_fresh sets
- * them to 0. They are not tested, no call and no reading looks at them, and what stands there changes no answer.
+ * them to 0, and so they stay. They are not tested, and no answer and no reading depends on them: what a host writes there changes
+ * no answer, and a call may leave it or set it to 0.
  *
  * What the pointers must be is C's business and is tested by nothing: `unit` points to KT11B_UNIT_WORDS words, `memory` to
  * `length` bytes, neither is null (where length is 0, `memory` is any pointer that is not null), and the two do not overlap.

@@ -7,12 +7,13 @@ use native.Mathlib.Omega.{arith}
 use lib.Dec.{eqb}
 use lib.ListN.{length, getD, take, drop, length-drop, take-append-drop}
 use lib.Seq.{drop-drop}
-use borrow.Author.Tests.{eqb-true, eqb-false, ltb-true, leb-true}
+use borrow.Author.Tests.{ne-eqb, eqb-true, eqb-false, ltb-true, leb-true}
 use Rattle.rules.specs.declared.Wait.{Wait}
 use Rattle.rules.specs.declared.Size.{Size}
+use Rattle.rules.specs.declared.Making.{Making}
 use Rattle.rules.specs.declared.Unit.{Unit}
 use Rattle.rules.specs.Choice.{pick}
-use Rattle.rules.specs.Unit.{countOf, room, keptCount}
+use Rattle.rules.specs.Unit.{countOf, sizeOf, room, keptCount}
 use Rattle.rules.proofs.Laws.Choices.{both-true, true-is-not-false}
 use Rattle.rules.proofs.Laws.StatusLaws.{packed-unpacked, unpacked-packed}
 use Rattle.coding.specs.Coding.{coreCount, countPlace, counterPlace, tagsPlace, wordsPlace, lastPlace, unitWords}
@@ -103,6 +104,16 @@ size-back n h = go (eqb n 24) (eqb n 8) refl refl h
     go : (a b : Bool) → eqb n 24 ≡ a → eqb n 8 ≡ b → (b || a) ≡ true → countOf (sizeIn n) ≡ n
     go true b e f t = rw e (sym (eqb-true n 24 e))
     go false true e f t = rw e (sym (eqb-true n 8 f))
+    go false false e f t = true-is-not-false (sym t)
+
+-- and it is the size that is made with that number: no other number is taken in words than in making
+pub size-made : (n : ℕ) → (eqb n 8 || eqb n 24) ≡ true → sizeOf n ≡ Making.With (sizeIn n)
+unfolding sizeOf sizeIn pick
+size-made n h = go (eqb n 24) (eqb n 8) refl refl h
+  where
+    go : (a b : Bool) → eqb n 24 ≡ a → eqb n 8 ≡ b → (b || a) ≡ true → sizeOf n ≡ Making.With (sizeIn n)
+    go true b e f t = let other : eqb n 8 ≡ false = ne-eqb n 8 (λ o. eqb-false 8 24 refl (sym o ∙ eqb-true n 24 e)) in rw (e, other)
+    go false true e f t = rw (e, f)
     go false false e f t = true-is-not-false (sym t)
 
 -- There and back -------------------------------------------------------------------------------------------------------------------

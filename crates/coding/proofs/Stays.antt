@@ -5,22 +5,24 @@ use mathlib.Core.Bool.{Bool, true, false, _||_}
 use mathlib.Core.List.{List, [], _∷_}
 use native.Mathlib.Omega.{arith}
 use lib.Dec.{eqb}
+use lib.ListN.{getD}
 use borrow.Author.Tests.{eq-eqb, lt-ltb, le-leb}
 use Rattle.rules.specs.declared.Wait.{Wait}
 use Rattle.rules.specs.declared.Size.{Size}
+use Rattle.rules.specs.declared.Making.{Making}
 use Rattle.rules.specs.declared.Unit.{Unit}
 use Rattle.rules.specs.declared.Call.{Call}
 use Rattle.rules.specs.Memory.{Memory}
-use Rattle.rules.specs.Unit.{countOf, room}
+use Rattle.rules.specs.Unit.{countOf, sizeOf, room}
 use Rattle.rules.specs.Calls.{callOf, fresh}
 use Rattle.rules.proofs.Laws.StatusLaws.{packed-zeros}
 use Rattle.rules.proofs.Laws.CellsLaws.{all-there}
 use Rattle.rules.proofs.Promises.{UnitFit}
 use Rattle.rules.proofs.Demand3.Wellformed.{fresh-fit}
 use Rattle.rules.proofs.Demand3.Ranges.{InRange, call-in-range}
-use Rattle.coding.specs.Coding.{lastWord, waitNumber, flagNumber, isUnit, coreOf, listOf, cellsOf, decoded, coreWords, cellsWords, coded}
+use Rattle.coding.specs.Coding.{countPlace, lastWord, waitNumber, flagNumber, isUnit, coreOf, listOf, cellsOf, decoded, coreWords, cellsWords, coded}
 use Rattle.coding.proofs.Cells.{length-cells, behind-cells}
-use Rattle.coding.proofs.Laws.{UnitWords, unit-words, size-there}
+use Rattle.coding.proofs.Laws.{UnitWords, unit-words, size-there, size-made}
 
 wait-small : (w : Wait) → waitNumber w < 4
 unfolding waitNumber
@@ -83,3 +85,8 @@ decoded-in-range w is =
 pub unit-stays : (m : Memory) (w : List ℕ) (c : Call) → isUnit w ≡ true → isUnit (coded (callOf m (decoded w) c .reply .unit)) ≡ true
 unit-stays m w c is =
     range-is-unit _ (call-in-range m (decoded w) c (decoded-in-range w is))
+
+-- and whoever wrote words that hold a unit, it is one of the size that is made with the number in them
+pub unit-made : (w : List ℕ) → isUnit w ≡ true → sizeOf (getD w countPlace 0) ≡ Making.With (decoded w .cells .size)
+unfolding decoded cellsOf
+unit-made w is = size-made (getD w countPlace 0) (unit-words w is .count)

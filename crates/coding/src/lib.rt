@@ -38,7 +38,7 @@ const LAST: u16 = 0x4231;
 // The number that names the first cell, as the counter counts them.
 const FIRST_CELL: usize = 0o10;
 
-// The two ends, and every field that has fewer values than a word: this runs at every access, and branches once.
+// The two ends, and every field that has fewer values than a word: this runs at every access, so it tests them all at once.
 pub fn is_unit(w: [u16; WORDS]) -> bool
     ensures { λ r. ⌜ r ≡ isUnit w ⌝ }
 {

@@ -74,7 +74,7 @@ pub record Quiet (e : Effect) : Type 0 where
   pub maps : (r : Maps) → mapsAfter e r ≡ r
   pub cells : (k : Cells) → cellsAfter e k ≡ k
 
--- What an attempt owes where it says that it is done: that the steps run so, over any cells, and that only the core and memory change.
+-- What an attempt owes where it says that it is done: that the steps run so, with any map registers, and that only the core and memory change.
 pub record Sound (a : Attempt) (m : Memory) (p : Maps → Prog) (k : Cells) : Type 0 where
   pub runs : a .done ≡ true → (r : Maps) → run m r (p r) k ≡ record { outcome = a .outcome; cells = k }
   pub quiet : a .done ≡ true → Quiet (a .outcome .effect)

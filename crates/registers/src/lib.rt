@@ -90,7 +90,7 @@ fn place_in(n: usize) -> Place
     }
 }
 
-// How many cells a unit of this size has, and so how many scratchpad words the table.
+// How many cells a unit of this size has, and so how many of the scratchpad words in the table.
 pub fn count_of(size: Size) -> usize
     ensures { λ r. ⌜ (r ≡ countOf size) × (r ≤ 24) ⌝ }
 {

@@ -1,4 +1,4 @@
--- What is stated beyond the promises, and where a reader comes in next: every way to end, the premises in 01's words, the host's numbers, one outcome.
+-- What is stated beyond the promises, and where a reader comes in next: every way to end, the premises in 01's words, the host's numbers and addresses, one outcome.
 pub mod Ways
 pub mod PremiseWords
 pub mod HostView

@@ -19,8 +19,8 @@ run m r (done o) k = record { outcome = o; cells = k }
 run m r (ask user p f) k = run m r (f (looked m r user p k .entry)) (looked m r user p k .cells)
 run m r (peek g f) k = run m r (f (peeked k g)) k
 
--- the unit with no cells of demand 3, "which walks the maps on every access"; it has no scratchpad words and no
--- counter to show, and the premises of demand 3 leave out the calls that ask for them
+-- the unit with no cells of demand 3, "which walks the maps on every access"; it reads 0 in the
+-- places of the scratchpad words and of the counter, and the premises of demand 3 leave out the calls that ask for them
 unfoldable pub plainRun : Memory → Maps → Prog → Outcome
 plainRun m r (done o) = o
 plainRun m r (ask user p f) = plainRun m r (f (walked m r user p))

@@ -51,7 +51,7 @@ pub enum Wait {
 // How many registers with no side effect there are: KTIC, KTSP, KTPC, KTPS, KTAD and KTDT, in the order of their addresses.
 pub const KEPT: usize = 6;
 
-// All of the unit but the map registers and the cells. The unit with no cells has this and the map registers alone.
+// All of the unit but the map registers and the cells. The unit with no cells has this, the map registers, and a size for its addresses.
 pub struct Core {
     pub ktcs: Ktcs,
     pub kept: [u16; KEPT],
@@ -88,7 +88,7 @@ pub enum Making {
 pub const ROOM: usize = 24;
 
 // The cells and the replacement counter, which counts from 10 octal. A unit has the first so many of the list as its size says; those
-// past them are not there, and no rule reads them.
+// past them are not there, and nothing that a rule gives depends on them.
 pub struct Cells {
     pub size: Size,
     pub list: [Cell; ROOM],

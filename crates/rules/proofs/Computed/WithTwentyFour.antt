@@ -1,14 +1,19 @@
 -- What the 24-cell option says in numbers (T-08), beside what 8 cells say, a row each of one table, computed from the definitions.
 use Prim.Native.Nat.{ℕ}
 use mathlib.Core.Path.{_≡_, refl}
-use mathlib.Core.List.{List, [], _∷_, map}
-use Rattle.rules.specs.Types.{Size, Cells, Associative, Register, Target, Place}
+use mathlib.Core.List.{List, [], _∷_, _++_, map}
+use lib.ListN.{drop, replicate}
+use Rattle.rules.specs.Types.{Size, Cells, Unit, Associative, Register, Target, Place}
+use Rattle.rules.specs.Memory.{Memory}
 use Rattle.rules.specs.Unit.{countOf, there}
 use Rattle.rules.specs.Registers.{placeOf, peeked}
 use Rattle.rules.specs.Maps.{tagIn, stepped}
+use Rattle.rules.specs.Runs.{seenAlong}
 use Rattle.rules.proofs.Computed.Opened.{opened}
-use Rattle.rules.proofs.Computed.Units.{twentyFour}
+use Rattle.rules.proofs.Computed.Units.{eight, twentyFour}
 use Rattle.rules.proofs.Computed.Starred.{lookedFor}
+use Rattle.rules.proofs.Computed.Worked.{A}
+use Rattle.rules.proofs.Computed.Premises.{Told, toldBy, ans, stored, W, executePage}
 
 -- one page more than there are cells
 abbrev pub pages1to25 : List ℕ
@@ -18,6 +23,24 @@ pages1to25 =
 -- the scratchpad word of a cell
 abbrev pub padWord : ℕ → Place
 padWord i = Place.There (Target.In (Register.Associative (Associative.Pad i)))
+
+-- Three pages of memory. The exec's map is page 1: its pages 1 to 9 are physical page 2, with words that differ in the bits 12-9, which are ignored.
+abbrev pub memory : Memory
+memory =
+    stored
+    (W 0o001402 0o161002 ∷ W 0o001404 0o162002 ∷ W 0o001406 0o163002 ∷ W 0o001410 0o164002 ∷ W 0o001412 0o165002
+    ∷ W 0o001414 0o166002 ∷ W 0o001416 0o167002 ∷ W 0o001420 0o170002 ∷ W 0o001422 0o171002 ∷ [])
+    (replicate 1536 0)
+
+-- KTEM 000001 and FCN 1, pages 1 to 9 read by EXECUTE, which is paged; and then, by SOURCE, which is not, KTMR and the words at 777620o, 777640o and
+-- 777676o
+abbrev pub padsRead : Unit → List Told
+padsRead u =
+    drop 11
+    (map toldBy
+    (seenAlong memory u
+    (A 2 1 0 0o177616 0o000001 ∷ A 2 1 0 0o177576 0o000001 ∷ map executePage (1 ∷ 2 ∷ 3 ∷ 4 ∷ 5 ∷ 6 ∷ 7 ∷ 8 ∷ 9 ∷ [])
+    ++ (A 0 1 0 0o177574 0 ∷ A 0 1 0 0o177620 0 ∷ A 0 1 0 0o177640 0 ∷ A 0 1 0 0o177676 0 ∷ []))))
 
 pub record WithTwentyFour : Type 0 where
   -- "10o to 37o and round with 24"
@@ -30,6 +53,9 @@ pub record WithTwentyFour : Type 0 where
   -- "KTMR reads the counter times 256: .. 004000 to 017400 with 24"
   pub ktmr-first : peeked (twentyFour .cells) Associative.Ktmr ≡ 0o004000
   pub ktmr-last : (k : Cells) → peeked (record { size = k .size; list = k .list; counter = 0o37 }) Associative.Ktmr ≡ 0o017400
+  -- the ninth page stands in cell 8 of 24, which reads at 777640o, and in cell 0 of 8
+  pub pads-of-24 : padsRead twentyFour ≡ ans 0 0o010400 ∷ ans 0 0o161002 ∷ ans 0 0o171002 ∷ ans 0 0 ∷ []
+  pub pads-of-8 : padsRead eight ≡ ans 0 0o004400 ∷ ans 0 0o171002 ∷ ans 9 0 ∷ ans 9 0 ∷ []
   -- "at 777620o to 777676o with 24; both bytes of each word belong to it"
   pub last-word : placeOf Size.TwentyFour 0 0o777676 ≡ padWord 23
   pub last-byte : placeOf Size.TwentyFour 0 0o777677 ≡ padWord 23
@@ -50,6 +76,8 @@ with-twenty-four =
       twenty-fifth-refills = refl;
       ktmr-first = refl;
       ktmr-last = λ k. refl;
+      pads-of-24 = refl;
+      pads-of-8 = refl;
       last-word = refl;
       last-byte = refl;
       ninth-word = refl;

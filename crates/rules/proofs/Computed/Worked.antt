@@ -3,7 +3,7 @@ use Prim.Native.Nat.{ℕ}
 use mathlib.Core.Path.{_≡_, refl}
 use mathlib.Core.List.{List, [], _∷_, _++_, map}
 use lib.ListN.{replicate}
-use Rattle.rules.specs.Types.{Access, Call, Physical}
+use Rattle.rules.specs.Types.{Unit, Access, Call, Physical}
 use Rattle.rules.specs.Memory.{Memory, storeWord}
 use Rattle.rules.specs.Status.{packed}
 use Rattle.rules.specs.Answers.{shown}
@@ -11,7 +11,7 @@ use Rattle.rules.specs.Unit.{there}
 use Rattle.rules.specs.Maps.{tagIn}
 use Rattle.rules.specs.Runs.{Seen, seenAlong, stationAfter}
 use Rattle.rules.proofs.Computed.Opened.{opened}
-use Rattle.rules.proofs.Computed.Units.{eight}
+use Rattle.rules.proofs.Computed.Units.{eight, twentyFour}
 use Rattle.rules.proofs.Computed.Starred.{numberAt}
 
 -- what the bench program prints of a call: the answer's number, its data and physical address, and KTCS after it
@@ -41,14 +41,20 @@ off n d s = record { number = n; datum = d; physical = Physical.Nowhere; ktcs = 
 abbrev pub A : ℕ → ℕ → ℕ → ℕ → ℕ → Call
 A op state width addr datum = Call.Access (record { op = op; state = state; width = width; addr = addr; datum = datum })
 
--- 01's listing: 65,536 bytes of zeroed memory, two words stored, four calls
-pub listing :
+-- 01's listing: 65,536 bytes of zeroed memory, two words stored, four calls of a fresh unit
+abbrev pub listingOf : Unit → List Row
+listingOf u =
     map rowOf
-    (seenAlong (storeWord (storeWord (replicate 65536 0) 0o001402 0o160002) 0o002004 0o000123) eight
+    (seenAlong (storeWord (storeWord (replicate 65536 0) 0o001402 0o160002) 0o002004 0o000123) u
     (A 2 2 0 0o177616 0o177001 ∷ A 2 2 0 0o177576 0o000002 ∷ A 0 2 0 0o001004 0 ∷ A 0 2 0 0o001005 0 ∷ []))
-    ≡ at 0 0 0o777616 0o000000 ∷ at 0 0 0o777576 0o000002 ∷ at 0 0o000123 0o002004 0o000012 ∷ off 4 0 0o040012 ∷ []
+
+abbrev pub listingRows : List Row
+listingRows = at 0 0 0o777616 0o000000 ∷ at 0 0 0o777576 0o000002 ∷ at 0 0o000123 0o002004 0o000012 ∷ off 4 0 0o040012 ∷ []
+
+-- "The listing of 01 prints the same with both counts." (T-08)
+pub listing : (listingOf eight ≡ listingRows) × (listingOf twentyFour ≡ listingRows)
 unfolding opened
-listing = refl
+listing = (refl, refl)
 
 -- "L=65,536 unpaged: the last word below 160000o is fine. L=4: 2 is fine"
 pub fine-at-the-end : (numberAt (replicate 65536 0) 0o157776 ≡ 0) × (numberAt (replicate 4 0) 2 ≡ 0)

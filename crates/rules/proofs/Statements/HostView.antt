@@ -1,4 +1,4 @@
--- Demand 3's equality as the host has it, in numbers: it follows from `SameAsPlain`.
+-- What the host has, in numbers: demand 3's equality, which follows from `SameAsPlain`, and where the registers and the scratchpad words stand.
 use Prim.Native.Nat.{ℕ, _+_, _*_, _≤_, _<_}
 use mathlib.Core.Path.{_≡_, refl, ap}
 use mathlib.Core.Bool.{true, false}
