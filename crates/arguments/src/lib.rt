@@ -36,7 +36,7 @@ fn by_count(count: Figures) -> Asked
     ensures { λ r. ⌜ r ≡ byCount count ⌝ }
 {
     match count {
-        Figures::Worth(cells) => Asked::Unit(unit::size_of(cells)),
+        Figures::Worth(cells) => Asked::Unit(sizes::size_of(cells)),
         Figures::Other => Asked::BadUsage,
     }
 }
@@ -46,7 +46,7 @@ pub fn asked_for(words: usize, option: &[u8], count: &[u8]) -> Asked
     ensures { λ r. ⌜ r ≡ askedFor words (now (option .entry)) (now (count .entry)) ⌝ }
 {
     if words < 2 {
-        return Asked::Unit(unit::size_of(USUAL));
+        return Asked::Unit(sizes::size_of(USUAL));
     }
     if words != 3 {
         return Asked::BadUsage;

@@ -26,7 +26,7 @@ const FIRST: u16 = 0o10;
 pub fn cell_of(list: [Cell; ROOM], size: Size, tag: u16) -> Found
     ensures { λ r. ⌜ r ≡ foundFrom 0 (map tagIn (take (countOf size) list)) tag ⌝ }
 {
-    let count = registers::count_of(size);
+    let count = sizes::count_of(size);
     let mut i = 0;
     while i < count {
         let held = list[i];
@@ -42,7 +42,7 @@ pub fn cell_of(list: [Cell; ROOM], size: Size, tag: u16) -> Found
 pub fn cell_at(list: [Cell; ROOM], size: Size, i: usize) -> Cell
     ensures { λ r. ⌜ r ≡ getD (take (countOf size) list) i emptyCell ⌝ }
 {
-    if i < registers::count_of(size) {
+    if i < sizes::count_of(size) {
         list[i]
     } else {
         EMPTY
@@ -74,7 +74,7 @@ fn cell_named(counter: u16) -> usize
 fn next_counter(size: Size, counter: u16) -> u16
     ensures { λ r. ⌜ r ≡ stepped (countOf size) counter ⌝ }
 {
-    if (counter as usize) < 7 + registers::count_of(size) {
+    if (counter as usize) < 7 + sizes::count_of(size) {
         counter + 1
     } else {
         FIRST

@@ -44,7 +44,7 @@ pub fn is_unit(w: [u16; WORDS]) -> bool
 {
     let count = w[COUNT_AT];
     let counter = w[COUNTER_AT] as usize;
-    let past_cells = FIRST_CELL + registers::count_of(size_in(count));
+    let past_cells = FIRST_CELL + sizes::count_of(size_in(count));
     (w[0] == FIRST)
         & (w[LAST_AT] == LAST)
         & (w[1] / 0o100 % 0o40 == 0)
@@ -212,7 +212,7 @@ fn with_cells(w: [u16; WORDS], size: Size, list: [Cell; ROOM], counter: u16) -> 
     ensures { λ o. ⌜ o ≡ take coreCount w ++ cellsWords (record { size = size; list = list; counter = counter }) ⌝ }
 {
     let mut o = w;
-    o[COUNT_AT] = registers::count_of(size) as u16;
+    o[COUNT_AT] = sizes::count_of(size) as u16;
     o[COUNTER_AT] = counter;
     o[LAST_AT] = LAST;
     with_list(o, list)

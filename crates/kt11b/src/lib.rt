@@ -23,7 +23,7 @@ pub extern "C" fn kt11b_fresh(unit: &mut [u16; coding::WORDS], cells: u64) -> u6
     ensures words { λ r. ⌜ now (unit .exit) ≡ wordsMade (now (unit .entry)) (sizeOf cells) ⌝ }
     ensures reply { λ r. ⌜ r ≡ replyWord (makingShown (sizeOf cells)) ⌝ }
 {
-    let how = unit::size_of(cells);
+    let how = sizes::size_of(cells);
     let reply = replies::making_replied(how);
     match how {
         Making::With(size) => {

@@ -41,7 +41,7 @@ fn cells_in(w: [u16; coding::WORDS]) -> usize
     let u = coding::decoded(w);
     let k = u.cells;
     let size = k.size;
-    registers::count_of(size)
+    sizes::count_of(size)
 }
 
 pub fn count_read(w: [u16; coding::WORDS]) -> u64

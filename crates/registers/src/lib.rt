@@ -2,8 +2,6 @@
 // registers (01, "Registers").
 ghost use mathlib.Core.Path.{_≡_};
 ghost use lib.ListN.{getD, set, take};
-ghost use Prim.Native.Nat.{_≤_};
-ghost use Rattle.rules.specs.Unit.{countOf};
 ghost use Rattle.rules.specs.Registers.{foundFrom, registerOf, placeIn, placeOf, partOf, merged, operatingWord};
 use rules::Associative;
 use rules::Core;
@@ -90,16 +88,6 @@ fn place_in(n: usize) -> Place
     }
 }
 
-// How many cells a unit of this size has, and so how many of the scratchpad words in the table.
-pub fn count_of(size: Size) -> usize
-    ensures { λ r. ⌜ (r ≡ countOf size) × (r ≤ 24) ⌝ }
-{
-    match size {
-        Size::Eight => 8,
-        Size::TwentyFour => 24,
-    }
-}
-
 // What lies at a physical address for a unit of this size: "at or beyond L and not a register above" is nowhere.
 pub fn place_of(size: Size, len: usize, at: usize) -> Place
     ensures { λ r. ⌜ r ≡ placeOf size len at ⌝ }
@@ -107,7 +95,7 @@ pub fn place_of(size: Size, len: usize, at: usize) -> Place
     if at < len {
         return Place::There(Target::Memory);
     }
-    let end = BEFORE_PADS + count_of(size);
+    let end = BEFORE_PADS + sizes::count_of(size);
     match found_before(&rules::REGISTERS, end, memory::even_of(at)) {
         Found::At(n) => place_in(n),
         Found::Missing => Place::Nowhere,

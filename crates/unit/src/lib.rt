@@ -7,7 +7,6 @@ use rules::Cells;
 use rules::Core;
 use rules::Effect;
 use rules::KEPT;
-use rules::Making;
 use rules::Maps;
 use rules::Outcome;
 use rules::ROOM;
@@ -19,7 +18,7 @@ use rules::Wait;
 ghost use mathlib.Core.Path.{_≡_};
 ghost use Rattle.rules.specs.Memory.{Memory};
 ghost use Rattle.rules.specs.Program.{done};
-ghost use Rattle.rules.specs.Unit.{sizeOf, zeroUnit};
+ghost use Rattle.rules.specs.Unit.{zeroUnit};
 ghost use Rattle.rules.specs.Calls.{interruptOf, trapOf, initOf, mapsAfter, cellsAfter, memoryAfter, settled, callOf, fresh};
 
 fn interrupt_of(c: Core) -> Outcome
@@ -158,19 +157,6 @@ pub fn init(u: Unit) -> Reply
     let r = u.maps;
     let k = u.cells;
     unit_after(r, transfer::ended(init_of(c, r), k))
-}
-
-// The size of a unit with so many cells: "8 and 24 give a fresh unit .. Every other number gives 30 and no unit." (T-08)
-pub fn size_of(cells: u64) -> Making
-    ensures { λ r. ⌜ r ≡ sizeOf cells ⌝ }
-{
-    if cells == 8 {
-        return Making::With(Size::Eight);
-    }
-    if cells == 24 {
-        return Making::With(Size::TwentyFour);
-    }
-    Making::OtherCount
 }
 
 // "all zero"

@@ -237,6 +237,7 @@ pub record PadsOfTheUnit : Type 0 where
   pub plain : map toldBy (plainAlong memory (plainOf twentyFour) ninthStoredRun) ≡ nineExecuted ++ (ans 0 0 ∷ ans 0 0o111 ∷ [])
   pub differs : seenAlong memory twentyFour ninthStoredRun ≡ plainAlong memory (plainOf twentyFour) ninthStoredRun → ⊥
   pub eight-met : meets memory eight noneInUse ninthStoredRun ≡ true
+  pub eight-plain : map toldBy (plainAlong memory (plainOf eight) ninthStoredRun) ≡ nineExecuted ++ (ans 9 0 ∷ ans 0 0o111 ∷ [])
   pub eight-seen : map toldBy (seenAlong memory eight ninthStoredRun) ≡ nineExecuted ++ (ans 9 0 ∷ ans 0 0o111 ∷ [])
   pub eight-same : seenAlong memory eight ninthStoredRun ≡ plainAlong memory (plainOf eight) ninthStoredRun
 
@@ -282,6 +283,7 @@ pads-of-the-unit =
       plain = refl;
       differs = λ e. omega (arith, ap (λ (l : List Seen). sumOf (map toldBy l)) e);
       eight-met = refl;
+      eight-plain = refl;
       eight-seen = refl;
       eight-same = same-as-plain Size.Eight memory ninthStoredRun refl;
     }

@@ -2,8 +2,8 @@
 use borrow.Author.Tests.{eq-eqb, ne-eqb}
 use Rattle.rules.specs.Choice.{pick}
 use Rattle.rules.specs.Unit.{sizeOf}
-use Rattle.unit.proofs.size_of.Statement.{statement}
-use Rattle.unit.proofs.size_of.Tie as tie
+use Rattle.sizes.proofs.size_of.Statement.{statement}
+use Rattle.sizes.proofs.size_of.Tie as tie
 
 returns : tie.Need-returns
 unfolding sizeOf pick

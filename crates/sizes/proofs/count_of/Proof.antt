@@ -2,8 +2,8 @@
 use borrow.Author.Needs.{needs}
 use mathlib.Core.Path.{sym, ap}
 use Rattle.rules.specs.Unit.{countOf}
-use Rattle.registers.proofs.count_of.Statement.{statement}
-use Rattle.registers.proofs.count_of.Tie as tie
+use Rattle.sizes.proofs.count_of.Statement.{statement}
+use Rattle.sizes.proofs.count_of.Tie as tie
 
 enum-told : tie.Need-enum-told
 enum-told c = search needs
