@@ -125,7 +125,7 @@ typedef char kt11b_short_has_16_bits[sizeof(unsigned short) == 2 ? 1 : -1];
 #define KT11B_REPLY_ANSWER(reply) ((int) (((reply) >> 40) & 0xFFUL))
 
 /*
- * Makes a fresh unit, all zero and then INIT, with so many cells: KT11B_CELLS_8 or KT11B_CELLS_24. It is made of whatever was in
+ * Makes a fresh unit, all zero and then INIT, with so many cells: KT11B_CELLS_8 or KT11B_CELLS_24. It is made over whatever was in
  * the words, all of them are set, and the answer is KT11B_DONE. Every other number is answered KT11B_OTHER_COUNT and leaves the
  * words as they were, also a unit that stood there. Nothing else sets the number of cells: no call changes it.
  */

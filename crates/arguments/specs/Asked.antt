@@ -5,7 +5,7 @@ use mathlib.Core.List.{List, [], _∷_}
 use lib.Dec.{eqb, ltb}
 use Rattle.rules.specs.Choice.{pick}
 use Rattle.rules.specs.Unit.{sizeOf}
-use Rattle.fieldtext.specs.Number.{countOf}
+use Rattle.fieldtext.specs.Number.{decimalOf}
 use Rattle.fieldtext.specs.declared.Figures.{Figures}
 use Rattle.fieldtext.specs.declared.Figures.the-variants.{Worth, Other}
 use Rattle.arguments.specs.Text.{optionText}
@@ -18,12 +18,13 @@ same [] (b ∷ t) = false
 same (a ∷ s) [] = false
 same (a ∷ s) (b ∷ t) = eqb a b && same s t
 
--- "`--cells` without a value, twice, or with anything but such digits is bad usage" (T-08)
+-- "anything but such digits is bad usage" (T-08)
 unfoldable pub byCount : Figures → Asked
 byCount (Worth n) = Unit (sizeOf n)
 byCount Other = BadUsage
 
--- By how many words the program was started with, its own name among them, and the two after its name.
+-- By how many words the program was started with, its own name among them, and the two after its name: "`--cells` without a value, twice, .. is bad
+-- usage" (T-08)
 unfoldable pub askedFor : ℕ → List ℕ → List ℕ → Asked
 askedFor words option count =
-    pick (ltb words 2) (Unit (sizeOf 8)) (pick (eqb words 3 && same option optionText) (byCount (countOf count)) BadUsage)
+    pick (ltb words 2) (Unit (sizeOf 8)) (pick (eqb words 3 && same option optionText) (byCount (decimalOf count)) BadUsage)

@@ -15,6 +15,7 @@ use Rattle.rules.specs.declared.Unit.{Unit}
 use Rattle.rules.specs.Choice.{pick}
 use Rattle.rules.specs.Unit.{countOf, sizeOf, room, keptCount}
 use Rattle.rules.proofs.Laws.Choices.{both-true, true-is-not-false}
+use Rattle.rules.proofs.Sizes.{made-or-refused}
 use Rattle.rules.proofs.Laws.StatusLaws.{packed-unpacked, unpacked-packed}
 use Rattle.coding.specs.Coding.{coreCount, countPlace, counterPlace, tagsPlace, wordsPlace, lastPlace, unitWords}
 use Rattle.coding.specs.Coding.{firstWord, lastWord, waitNumber, waitOf, flagNumber, sizeIn, isUnit, coreOf, mapsOf, listOf, cellsOf, decoded, coreWords, cellsWords, coded}
@@ -96,17 +97,7 @@ unfolding sizeIn countOf pick
 size-there Size.Eight = refl
 size-there Size.TwentyFour = refl
 
--- one of the two numbers is that of the size that it is read as
-pub size-back : (n : ℕ) → (eqb n 8 || eqb n 24) ≡ true → countOf (sizeIn n) ≡ n
-unfolding sizeIn countOf pick
-size-back n h = go (eqb n 24) (eqb n 8) refl refl h
-  where
-    go : (a b : Bool) → eqb n 24 ≡ a → eqb n 8 ≡ b → (b || a) ≡ true → countOf (sizeIn n) ≡ n
-    go true b e f t = rw e (sym (eqb-true n 24 e))
-    go false true e f t = rw e (sym (eqb-true n 8 f))
-    go false false e f t = true-is-not-false (sym t)
-
--- and it is the size that is made with that number: no other number is taken in words than in making
+-- one of the two numbers is read as the size that is made with it: no other number is taken in words than in making
 pub size-made : (n : ℕ) → (eqb n 8 || eqb n 24) ≡ true → sizeOf n ≡ Making.With (sizeIn n)
 unfolding sizeOf sizeIn pick
 size-made n h = go (eqb n 24) (eqb n 8) refl refl h
@@ -115,6 +106,10 @@ size-made n h = go (eqb n 24) (eqb n 8) refl refl h
     go true b e f t = let other : eqb n 8 ≡ false = ne-eqb n 8 (λ o. eqb-false 8 24 refl (sym o ∙ eqb-true n 24 e)) in rw (e, other)
     go false true e f t = rw (e, f)
     go false false e f t = true-is-not-false (sym t)
+
+-- and it is the number of that size
+pub size-back : (n : ℕ) → (eqb n 8 || eqb n 24) ≡ true → countOf (sizeIn n) ≡ n
+size-back n h = made-or-refused .count n (sizeIn n) (size-made n h)
 
 -- There and back -------------------------------------------------------------------------------------------------------------------
 

@@ -4,3 +4,4 @@ pub mod Cells
 pub mod Passes
 pub mod Laws
 pub mod Stays
+pub mod Room

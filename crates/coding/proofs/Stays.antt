@@ -65,7 +65,7 @@ pub fresh-is-unit : (s : Size) → isUnit (coded (fresh s)) ≡ true
 fresh-is-unit s = fit-is-unit (fresh s) (fresh-fit s)
 
 -- words that hold a unit have those ranges, whoever wrote them
-decoded-in-range : (w : List ℕ) → isUnit w ≡ true → InRange (countOf (decoded w .cells .size)) (decoded w)
+pub decoded-in-range : (w : List ℕ) → isUnit w ≡ true → InRange (countOf (decoded w .cells .size)) (decoded w)
 unfolding decoded coreOf cellsOf listOf
 decoded-in-range w is =
     let h : UnitWords w = unit-words w is in

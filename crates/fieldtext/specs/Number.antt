@@ -41,5 +41,5 @@ unfoldable pub numberOf : List ℕ → Number
 numberOf f = pick (isNumber f) (Value (worth f)) NotOne
 
 -- "N is 1 to 9 decimal digits." (T-08)
-unfoldable pub countOf : List ℕ → Figures
-countOf f = digitsOf 10 9 f
+unfoldable pub decimalOf : List ℕ → Figures
+decimalOf f = digitsOf 10 9 f

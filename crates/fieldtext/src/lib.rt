@@ -3,7 +3,7 @@ ghost use mathlib.Core.Path.{_≡_};
 ghost use mathlib.Core.Bool.{_&&_};
 ghost use Prim.Native.Nat.{_≤_};
 ghost use lib.ListN.{length};
-ghost use Rattle.fieldtext.specs.Number.{isDigit, digitsOf, numberOf, countOf};
+ghost use Rattle.fieldtext.specs.Number.{isDigit, digitsOf, numberOf, decimalOf};
 ghost use Rattle.fieldtext.specs.Cut.{headOf, fieldsAt, none};
 ghost use Rattle.fieldtext.specs.Reading.{Took};
 
@@ -97,7 +97,7 @@ pub fn octal(field: &[u8]) -> Number
 
 // A count: "N is 1 to 9 decimal digits." (T-08)
 pub fn count(bytes: &[u8]) -> Figures
-    ensures { λ r. ⌜ r ≡ countOf (now (bytes .entry)) ⌝ }
+    ensures { λ r. ⌜ r ≡ decimalOf (now (bytes .entry)) ⌝ }
 {
     read_digits(bytes, 10, 9)
 }

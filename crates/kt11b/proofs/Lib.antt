@@ -1,2 +1,3 @@
 -- What the proofs of the calls share.
 pub mod Calls
+pub mod Absent

@@ -1,5 +1,5 @@
 // The static library for hosts: the calls of the unit over words that the host owns, and what front panels and debuggers read.
-// No function requires anything: words that don't hold a unit are answered 70, and stay as they are. The C header is host/include/kt11b.h.
+// No function requires anything: a call or a reading answers words that don't hold a unit by 70, and they stay as they are. The C header is host/include/kt11b.h.
 use rules::Access;
 use rules::Making;
 use rules::Reply;

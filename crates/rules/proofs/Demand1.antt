@@ -7,3 +7,4 @@ pub mod Ended
 pub mod Effects
 pub mod Bits
 pub mod Interrupts
+pub mod CellStores

@@ -7,18 +7,18 @@ use mathlib.Core.Logic.{_≢_}
 use mathlib.Core.List.{List, [], _∷_, _++_}
 use lib.Dec.{eqb}
 use lib.ListN.{length, getD, replicate}
-use Rattle.rules.specs.Types.{Wait, Ktcs, Fetch, Core, Maps, Cell, Size, Making, Cells, Unit, Access, Call, Found, Associative, Target, Place, Entry, Looked, Due, Fault, Answer, Physical, Job}
+use Rattle.rules.specs.Types.{Wait, Ktcs, Fetch, Core, Maps, Cell, Size, Making, Cells, Unit, Access, Call, Found, Associative, Target, Place, Part, Entry, Looked, Due, Fault, Answer, Physical, Effect, Job}
 use Rattle.rules.specs.Choice.{pick}
 use Rattle.rules.specs.Memory.{Memory}
-use Rattle.rules.specs.Unit.{countOf, sizeOf, room, there, keptCount, emptyCell, cellAt, clearKtcs, clearFetch}
-use Rattle.rules.specs.Status.{flagsClear}
-use Rattle.rules.specs.Registers.{ktic, ktad, ktdt, placeOf, peeked}
+use Rattle.rules.specs.Unit.{countOf, sizeOf, room, there, emptyCell, cellAt, clearFetch}
+use Rattle.rules.specs.Status.{packed, flagsClear}
+use Rattle.rules.specs.Registers.{ktic, ktad, ktdt, placeOf, merged, peeked}
 use Rattle.rules.specs.Maps.{unpaged, unpagedAt, pageOf, physicalAt, residentBit, publicBit, writeBit, low9, execZero, execZeroEntry, walkOf, entryOf, tagOf, cellOf, filled, looked, forgotten}
 use Rattle.rules.specs.Fetched.{isFetch, isDato, normal, noted}
 use Rattle.rules.specs.Steps.{wellShaped, dueOf, oddWord, watches, forbidden}
 use Rattle.rules.specs.Sequences.{violated, timedOut, trapTwice, vectorListed, idle}
 use Rattle.rules.specs.Order.{wordRead, windowAddr}
-use Rattle.rules.specs.Calls.{After, callOf, fresh}
+use Rattle.rules.specs.Calls.{After, cellsAfter, callOf, fresh}
 use Rattle.rules.specs.Answers.{shown, makingShown}
 use Rattle.rules.specs.Runs.{Turn, unitAfter, seenAlong, Station, stationAfter, plainOf, plainAlong, History, noneInUse, isOutdated, meets, historyOf}
 
@@ -126,7 +126,7 @@ outerTests m u q =
     test (oddWord (q .width) (q .addr)) (Answer.Fault Fault.OddAddress)
     ∷ (entryTests (q .op) (watches (job u q .core .fetch) q) (outer m u q .entry) ++ targetTests m u q)
 
--- the window "goes on as a user access to KTAD through steps 5-8 and 10 again"
+-- the window "goes on as a user access to KTAD, through steps 5-8 and 10 again"
 abbrev pub innerTests : Memory → Unit → Access → List Test
 innerTests m u q =
     test (oddWord (q .width) (windowAddr (job u q))) (Answer.Fault Fault.OddAddress)
@@ -388,22 +388,51 @@ ExecTrapUnchanged = (m : Memory) (u : Unit) (v : ℕ) → u .core .ktcs .um ≡ 
 abbrev pub OtherTrapUnchanged : Type 0
 OtherTrapUnchanged = (m : Memory) (u : Unit) → trapTwice (u .core .fetch) ≡ false → callOf m u (Call.Trap 0o34) .reply .unit ≡ u
 
--- INIT: "other registers stay (H)"
+-- "empties all cells and sets the counter to 10o" makes l of the cells k; how many there are stays
+pub record Reloaded (k l : Cells) : Type 0 where
+  pub cells : (i : ℕ) → cellAt l i ≡ emptyCell
+  pub counter : l .counter ≡ 0o10
+  pub size : l .size ≡ k .size
+
+-- INIT: "other registers stay (H)", and the cells are cleared
 pub record InitKeeps (m : Memory) (u : Unit) (a : After) : Type 0 where
   pub memory : a .memory ≡ m
   pub maps : a .reply .unit .maps ≡ u .maps
   pub registers : a .reply .unit .core .kept ≡ u .core .kept
+  pub cells : Reloaded (u .cells) (a .reply .unit .cells)
 
 abbrev pub InitLeaves : Type 0
 InitLeaves = (m : Memory) (u : Unit) → InitKeeps m u (callOf m u Call.Init)
+
+-- Demand 1: what a store does to the cells -------------------------------------------------------------------------------
+
+-- Which calls store into a map register or a scratchpad word is `EffectsByAnswer` of Ways.antt, and what their effect does to the cells is this.
+abbrev pub ReloadEmpties : Type 0
+ReloadEmpties = (r : Maps) (k : Cells) → Reloaded k (cellsAfter (Effect.Reload r) k)
+
+-- "A store into a scratchpad word leaves the tag, and does nothing in an empty cell (H).": a store into the word of cell i makes l of the cells k
+pub record PadTakes (i : ℕ) (p : Part) (v : ℕ) (k l : Cells) : Type 0 where
+  pub tag : cellAt l i .tag ≡ cellAt k i .tag
+  pub word : cellAt k i .tag ≢ 0 → cellAt l i .word ≡ merged p (cellAt k i .word) v
+  pub empty : cellAt k i .tag ≡ 0 → cellAt l i ≡ cellAt k i
+  pub others : (j : ℕ) → j ≢ i → cellAt l j ≡ cellAt k j
+  pub counter : l .counter ≡ k .counter
+  pub size : l .size ≡ k .size
+
+abbrev pub PadStoreTakes : Type 0
+PadStoreTakes =
+    (k : Cells) (i : ℕ) (p : Part) (v : ℕ) → i < length (there k) → PadTakes i p v k (cellsAfter (Effect.StorePad i p v) k)
 
 -- Making, and how many cells there are ------------------------------------------------------------------------------------
 
 -- "a fresh unit (all zero, then INIT) with so many cells, counter 10o" (T-08); the room of cells that it hasn't got is empty too
 pub record FreshUnit (s : Size) (u : Unit) : Type 0 where
-  pub core : u .core ≡ record { ktcs = clearKtcs; kept = replicate keptCount 0; wait = Wait.Nothing; fetch = clearFetch }
+  pub ktcs : packed (u .core .ktcs) ≡ 0
+  pub kept : u .core .kept ≡ 0 ∷ 0 ∷ 0 ∷ 0 ∷ 0 ∷ 0 ∷ []
+  pub wait : u .core .wait ≡ Wait.Nothing
+  pub fetch : u .core .fetch ≡ record { newer = 0; older = 0; datos = 0; accesses = 0; public = false }
   pub maps : u .maps ≡ record { ktum = 0; ktem = 0 }
-  pub cells : u .cells ≡ record { size = s; list = replicate room emptyCell; counter = 0o10 }
+  pub cells : u .cells ≡ record { size = s; list = replicate 24 (record { tag = 0; word = 0 }); counter = 0o10 }
 
 -- "8 and 24 give a fresh unit .. Every other number gives 30 and no unit." (T-08): the sizes by the number that is asked for
 pub record MadeOrRefused : Type 0 where
@@ -548,6 +577,8 @@ pub record Promises : Type 0 where
   pub exec-trap-unchanged : ExecTrapUnchanged
   pub other-trap-unchanged : OtherTrapUnchanged
   pub init-leaves : InitLeaves
+  pub reload-empties : ReloadEmpties
+  pub pad-store-takes : PadStoreTakes
   -- Making
   pub made-or-refused : MadeOrRefused
   pub cell-by-counter : CellByCounter

@@ -5,6 +5,7 @@ use Rattle.rules.proofs.Demand1.Ended.{numbers-of-steps, numbered, memo
 use Rattle.rules.proofs.Demand1.Bits.{eighteen-bits}
 use Rattle.rules.proofs.Demand1.Kept.{step4-leaves, step6-leaves}
 use Rattle.rules.proofs.Demand1.Interrupts.{interrupt-leaves, trap-leaves, exec-trap-unchanged, other-trap-unchanged, init-leaves}
+use Rattle.rules.proofs.Demand1.CellStores.{reload-empties, pad-store-takes}
 use Rattle.rules.proofs.Sizes.{made-or-refused, cell-by-counter, size-stays, absent-unseen}
 use Rattle.rules.proofs.Demand3.Wellformed.{always-fit}
 use Rattle.rules.proofs.Laws.Pages.{exec-zero-uncelled}
@@ -29,6 +30,8 @@ promises =
       exec-trap-unchanged = exec-trap-unchanged;
       other-trap-unchanged = other-trap-unchanged;
       init-leaves = init-leaves;
+      reload-empties = reload-empties;
+      pad-store-takes = pad-store-takes;
       made-or-refused = made-or-refused;
       cell-by-counter = cell-by-counter;
       size-stays = size-stays;

@@ -6,13 +6,14 @@ use mathlib.Core.List.{List, map}
 use mathlib.Core.Logic.{_≢_}
 use native.Mathlib.Omega.{arith}
 use lib.Dec.{eqb}
-use lib.ListN.{getD, set, replicate, length-replicate}
+use lib.ListN.{getD, set}
 use lib.Seq.{getD-set-same}
 use borrow.Author.Tests.{eqb-true, ne-eqb}
 use Rattle.rules.specs.Types.{Core, Maps, Cell, Size, Making, Cells, Unit, Call, Found, Associative, Part, Walk, Entry, Looked, Effect, Outcome, Ran}
 use Rattle.rules.specs.Choice.{pick}
 use Rattle.rules.specs.Memory.{Memory}
-use Rattle.rules.specs.Unit.{countOf, sizeOf, room, there, emptyCell, cellAt, emptied, initCore, zeroUnit}
+use Rattle.rules.specs.Unit.{countOf, sizeOf, there, emptyCell, cellAt, emptied, clearKtcs, clearFetch, initCore, zeroUnit}
+use Rattle.rules.specs.Status.{bitOf, packed}
 use Rattle.rules.specs.Registers.{foundFrom, peeked, cellStored, padStored}
 use Rattle.rules.specs.Maps.{execZero, execZeroEntry, walkOf, tagOf, tagIn, cellOf, stepped, filled, filledBy, missed, soughtIn, looked, cellForgotten, forgotten}
 use Rattle.rules.specs.Program.{Prog, done, ask, peek, run}
@@ -36,8 +37,8 @@ made-count n s = go (eqb n 8) refl (eqb n 24) refl
     go false t false u e = absurd (let z : _≡_ {A = ℕ} 0 1 = cc in omega arith)
 
 made-fresh : (s : Size) → FreshUnit s (fresh s)
-unfolding fresh callOf settled run called initOf outcome mapsAfter cellsAfter zeroUnit initCore emptied
-made-fresh s = record { core = refl; maps = refl; cells = ap (λ (n : ℕ). record { size = s; list = replicate n emptyCell; counter = 0o10 }) (length-replicate room emptyCell) }
+unfolding fresh callOf settled run called initOf outcome mapsAfter cellsAfter zeroUnit initCore clearKtcs clearFetch emptied emptyCell packed bitOf pick
+made-fresh s = record { ktcs = refl; kept = refl; wait = refl; fetch = refl; maps = refl; cells = refl }
 
 pub made-or-refused : MadeOrRefused
 unfolding sizeOf makingShown shownAs pick

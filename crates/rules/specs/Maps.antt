@@ -129,7 +129,8 @@ tagIn h = h .tag
 unfoldable pub cellOf : Cells → ℕ → Found
 cellOf k tag = foundFrom 0 (map tagIn (there k)) tag
 
--- "then the counter steps 10o to 17o and round", the last being 7 more than there are cells: "With 24 the counter runs 10o to 37o" (T-08)
+-- "then the counter steps 10o to 17o and round", the last being 7 more than there are cells: "With 24 the counter runs 10o to 37o" (T-08). The
+-- 57o of source 3.3.2.6 is neither.
 unfoldable pub stepped : ℕ → ℕ → ℕ
 stepped n counter = pick (ltb counter (0o7 + n)) (counter + 1) 0o10
 

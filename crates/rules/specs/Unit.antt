@@ -20,7 +20,8 @@ sizeOf n = pick (eqb n 8) (Making.With Size.Eight) (pick (eqb n 24) (Making.With
 abbrev pub room : ℕ
 room = 24
 
--- The cells that a unit has. What stands past them is not there: nothing that a rule gives depends on it.
+-- The cells that a unit has. What stands past them is not there: no answer, no memory and no cell that is there depends on it (`AbsentUnseen` of the
+-- promises).
 unfoldable pub there : Cells → List Cell
 there k = take (countOf (k .size)) (k .list)
 

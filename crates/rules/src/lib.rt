@@ -88,7 +88,7 @@ pub enum Making {
 pub const ROOM: usize = 24;
 
 // The cells and the replacement counter, which counts from 10 octal. A unit has the first so many of the list as its size says; those
-// past them are not there, and nothing that a rule gives depends on them.
+// past them are not there: no answer, no memory and no cell that is there depends on them.
 pub struct Cells {
     pub size: Size,
     pub list: [Cell; ROOM],

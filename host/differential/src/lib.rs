@@ -3,7 +3,7 @@
 mod pair;
 mod random;
 mod steering;
-mod words;
+pub mod words;
 
 pub use pair::{Counts, Pair, BUFFER};
 pub use random::Random;

@@ -1,17 +1,17 @@
-//! The words in which a unit lies, made of the model's unit as T-08, the request for the 24-cell option, has them. The sentences are the
-//! request's.
+//! The words in which a unit lies, made of the model's unit as T-08, the request for the 24-cell option, has them. The sentences are
+//! those of the request and of the issue that settles it.
 
 use kt11b::UNIT_WORDS;
 use kt11b_model::{Unit, KTDT, KTEM, KTIC, KTUM};
 
 /// "16 the number of cells (8 or 24), 17 the counter"
-const COUNT_PLACE: usize = 16;
+pub const COUNT_PLACE: usize = 16;
 const COUNTER_PLACE: usize = 17;
 /// "18 + i the tag and 42 + i the word of cell i for i from 0 to 23"
-const TAGS_PLACE: usize = 18;
-const WORDS_PLACE: usize = 42;
+pub const TAGS_PLACE: usize = 18;
+pub const WORDS_PLACE: usize = 42;
 /// "66 the last word"
-const LAST_PLACE: usize = 66;
+pub const LAST_PLACE: usize = 66;
 
 /// The words of the model's unit.
 pub fn words_of(unit: &Unit) -> [u16; UNIT_WORDS] {

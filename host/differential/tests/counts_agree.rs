@@ -2,15 +2,10 @@
 //! every answer and register": through the library, each unit held against the model too.
 
 use kt11b::{Register, Unit};
+use kt11b_differential::words::{COUNT_PLACE, LAST_PLACE, TAGS_PLACE, WORDS_PLACE};
 use kt11b_differential::{Counts, Pair, BUFFER};
 use kt11b_model::bench::{parse, Line, MEMORY_BYTES};
 use kt11b_model::generate::FewWalks;
-
-/// Where the words of the cells begin and end; the number of cells and the counter stand before them.
-const NUMBER_PLACE: usize = 16;
-const TAGS_PLACE: usize = 18;
-const WORDS_PLACE: usize = 42;
-const LAST_PLACE: usize = 66;
 
 /// Every register, the counter, the wait and the first eight cells are the same; the others of the 24-cell unit are empty.
 fn assert_agree(few: &Unit, many: &Unit) {
@@ -25,9 +20,9 @@ fn assert_agree(few: &Unit, many: &Unit) {
     }
     // The fetch memory too, which no reading shows: every word but the number of cells.
     let [few, many] = [few.words(), many.words()];
-    assert_eq!((few[NUMBER_PLACE], many[NUMBER_PLACE]), (8, 24));
-    assert_eq!(few[..NUMBER_PLACE], many[..NUMBER_PLACE]);
-    assert_eq!(few[NUMBER_PLACE + 1..], many[NUMBER_PLACE + 1..]);
+    assert_eq!((few[COUNT_PLACE], many[COUNT_PLACE]), (8, 24));
+    assert_eq!(few[..COUNT_PLACE], many[..COUNT_PLACE]);
+    assert_eq!(few[COUNT_PLACE + 1..], many[COUNT_PLACE + 1..]);
     assert_eq!(many[TAGS_PLACE + 8..WORDS_PLACE], [0; 16]);
     assert_eq!(many[WORDS_PLACE + 8..LAST_PLACE], [0; 16]);
 }

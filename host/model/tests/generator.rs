@@ -94,22 +94,28 @@ fn all_cells_are_filled_and_the_counter_goes_round_often() {
     }
 }
 
+/// How often accesses of a sort ended so at the words past the eighth cell, and how often otherwise.
+fn at_the_upper_words(stats: &Stats, cells: u64, how: &str) -> [u64; 2] {
+    let nowhere = stats.counted(&format!("{UPPER_WORDS}, {how}: answer 9"));
+    let there = stats.counted(&format!("{UPPER_WORDS}, {how}: answer 0"));
+    match cells {
+        8 => [nowhere, there],
+        _ => [there, nowhere],
+    }
+}
+
 /// 777640o to 777677o are aimed at unpaged, paged and by the window, and so is 777700o: nowhere with 8 cells, words with 24 but for the last.
 #[test]
 fn the_words_past_the_eighth_cell_are_aimed_at_with_both_counts() {
     for cells in BOTH {
         reached(1, cells, |stats| {
-            let nowhere = |words: &str, how| stats.counted(&format!("{words}, {how}: answer 9"));
-            let there = |how| stats.counted(&format!("{UPPER_WORDS}, {how}: answer 0"));
             for (how, least) in [("unpaged", 300), ("paged", 200), ("by the window", 50)] {
-                let [given, other] = match cells {
-                    8 => [nowhere(UPPER_WORDS, how), there(how)],
-                    _ => [there(how), nowhere(UPPER_WORDS, how)],
-                };
+                let [given, other] = at_the_upper_words(stats, cells, how);
                 assert!(given >= least && other == 0, "{cells} cells, {how}: {given}, {other}");
             }
             for (how, least) in [("unpaged", 20), ("paged", 50), ("by the window", 10)] {
-                assert!(nowhere(PAST_ALL_WORDS, how) >= least, "{cells} cells, {how}");
+                let nowhere = stats.counted(&format!("{PAST_ALL_WORDS}, {how}: answer 9"));
+                assert!(nowhere >= least, "{cells} cells, {how}");
             }
         });
     }

@@ -178,15 +178,17 @@ beforeHost = pagingOn ++ (readPage 1 ∷ [])
 abbrev pub hostChanged : Memory
 hostChanged = storeWord (stationAfter memory eight beforeHost .memory) 0o001402 0o160003
 
--- FCN 1, in which EXECUTE is paged and SOURCE is not: nine pages are read, of which a unit with 24 cells holds the ninth in cell 8. Its
--- scratchpad word, at 777640o, is stored into, and the page is read again.
+-- KTEM 000001 and FCN 1, in which EXECUTE is paged and SOURCE is not; then nine pages are read, by EXECUTE
 abbrev pub executePage : ℕ → Call
 executePage p = A 0 3 0 (512 * p) 0
 
-abbrev pub ninthStoredRun : List Call
-ninthStoredRun =
+abbrev pub nineByExecute : List Call
+nineByExecute =
     A 2 1 0 0o177616 0o000001 ∷ A 2 1 0 0o177576 0o000001 ∷ map executePage (1 ∷ 2 ∷ 3 ∷ 4 ∷ 5 ∷ 6 ∷ 7 ∷ 8 ∷ 9 ∷ [])
-    ++ (A 2 1 0 0o177640 0o160003 ∷ executePage 9 ∷ [])
+
+-- A unit with 24 cells holds the ninth page in cell 8. Its scratchpad word, at 777640o, is stored into, and the page is read again.
+abbrev pub ninthStoredRun : List Call
+ninthStoredRun = nineByExecute ++ (A 2 1 0 0o177640 0o160003 ∷ executePage 9 ∷ [])
 
 -- what both units answer to the first eleven calls
 abbrev pub nineExecuted : List Told

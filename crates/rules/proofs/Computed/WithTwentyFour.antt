@@ -13,7 +13,7 @@ use Rattle.rules.proofs.Computed.Opened.{opened}
 use Rattle.rules.proofs.Computed.Units.{eight, twentyFour}
 use Rattle.rules.proofs.Computed.Starred.{lookedFor}
 use Rattle.rules.proofs.Computed.Worked.{A}
-use Rattle.rules.proofs.Computed.Premises.{Told, toldBy, ans, stored, W, executePage}
+use Rattle.rules.proofs.Computed.Premises.{Told, toldBy, ans, stored, W, nineByExecute}
 
 -- one page more than there are cells
 abbrev pub pages1to25 : List ℕ
@@ -32,15 +32,13 @@ memory =
     ∷ W 0o001414 0o166002 ∷ W 0o001416 0o167002 ∷ W 0o001420 0o170002 ∷ W 0o001422 0o171002 ∷ [])
     (replicate 1536 0)
 
--- KTEM 000001 and FCN 1, pages 1 to 9 read by EXECUTE, which is paged; and then, by SOURCE, which is not, KTMR and the words at 777620o, 777640o and
--- 777676o
+-- pages 1 to 9 read by EXECUTE, and then, by SOURCE, unpaged, KTMR and the words at 777620o, 777640o and 777676o
 abbrev pub padsRead : Unit → List Told
 padsRead u =
     drop 11
     (map toldBy
     (seenAlong memory u
-    (A 2 1 0 0o177616 0o000001 ∷ A 2 1 0 0o177576 0o000001 ∷ map executePage (1 ∷ 2 ∷ 3 ∷ 4 ∷ 5 ∷ 6 ∷ 7 ∷ 8 ∷ 9 ∷ [])
-    ++ (A 0 1 0 0o177574 0 ∷ A 0 1 0 0o177620 0 ∷ A 0 1 0 0o177640 0 ∷ A 0 1 0 0o177676 0 ∷ []))))
+    (nineByExecute ++ (A 0 1 0 0o177574 0 ∷ A 0 1 0 0o177620 0 ∷ A 0 1 0 0o177640 0 ∷ A 0 1 0 0o177676 0 ∷ []))))
 
 pub record WithTwentyFour : Type 0 where
   -- "10o to 37o and round with 24"

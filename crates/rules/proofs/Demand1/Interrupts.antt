@@ -11,6 +11,7 @@ use Rattle.rules.specs.Sequences.{serviceAwaited, interrupted, trapTwice
 use Rattle.rules.specs.Program.{run}
 use Rattle.rules.specs.Order.{outcome}
 use Rattle.rules.specs.Calls.{initOf, called, mapsAfter, cellsAfter, memoryAfter, settled, callOf}
+use Rattle.rules.proofs.Demand1.CellStores.{emptied-reloads}
 use Rattle.rules.proofs.Laws.Choices.{picked}
 use Rattle.rules.proofs.Promises.{ModesOnly, InterruptKeeps, InterruptLeaves, TrapLeaves, ExecTrapUnchanged, OtherTrapUnchanged, InitLeaves}
 use Rattle.rules.proofs.Statements.Ways.{ending, Why, interrupt-late, interrupt-taken, unlisted, trap-late, trap-taken}
@@ -102,5 +103,5 @@ unfolding callOf
 other-trap-unchanged m u e = idle-trap (why m u (Call.Trap 0o34)) (other-trapped (u .core) e)
 
 pub init-leaves : InitLeaves
-unfolding callOf called initOf run outcome settled mapsAfter memoryAfter initCore
-init-leaves m u = record { memory = refl; maps = refl; registers = refl }
+unfolding callOf called initOf run outcome settled mapsAfter memoryAfter cellsAfter initCore
+init-leaves m u = record { memory = refl; maps = refl; registers = refl; cells = emptied-reloads (u .cells) }

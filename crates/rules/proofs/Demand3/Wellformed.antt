@@ -22,7 +22,7 @@ use Rattle.rules.proofs.Laws.Choices.{picked}
 use Rattle.rules.proofs.Laws.Lists.{getD-set-either, getD-replicate-default, set-cases}
 use Rattle.rules.proofs.Laws.Pages.{tagOf-below, tag-other}
 use Rattle.rules.proofs.Laws.Counter.{emptied-names, forgotten-names, padStored-names, filled-names}
-use Rattle.rules.proofs.Laws.CellsLaws.{some-cells, all-there, there-filled, there-stored, empty-tag, empty-forgotten, missing-has-none, cell-emptied, cell-forgotten}
+use Rattle.rules.proofs.Laws.CellsLaws.{some-cells, all-there, there-filled, there-stored, empty-tag, empty-forgotten, cellStored-tag, missing-has-none, cell-emptied, cell-forgotten}
 use Rattle.rules.proofs.Laws.CoreLaws.{initCore-fits}
 use Rattle.rules.proofs.Demand3.Always.{Always, ends, asks, peeks-at}
 use Rattle.rules.proofs.Demand3.Endings.{Ending, call-ends}
@@ -38,10 +38,6 @@ record CellFit (c : Cell) : Type 0 where
 emptyCell-fit : CellFit emptyCell
 unfolding emptyCell
 emptyCell-fit = record { empty = λ e. refl; tag = omega arith }
-
-cellStored-tag : (c : Cell) (p : Part) (v : ℕ) → cellStored c p v .tag ≡ c .tag
-unfolding cellStored
-cellStored-tag c p v = picked (λ (x : Cell). x .tag ≡ c .tag) (eqb (c .tag) 0) _ _ (λ t. refl) (λ t. refl)
 
 cellStored-fit : (c : Cell) (p : Part) (v : ℕ) → CellFit c → CellFit (cellStored c p v)
 unfolding cellStored

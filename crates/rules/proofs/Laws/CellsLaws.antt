@@ -5,6 +5,7 @@ use mathlib.Core.List.{map}
 use Prim.Native.Nat.{ℕ, _-_, _≤_, _<_}
 use native.Mathlib.Omega.{arith}
 use borrow.Author.Tests.{eq-eqb, ne-eqb}
+use lib.Dec.{eqb}
 use lib.Seq.{length-take-le}
 use lib.ListN.{length, getD, set, replicate, List·getD-map}
 use Rattle.rules.specs.Types.{Cell, Size, Cells, Found, Part}
@@ -12,7 +13,7 @@ use Rattle.rules.specs.Choice.{pick}
 use Rattle.rules.specs.Unit.{countOf, room, there, emptyCell, cellAt, emptied}
 use Rattle.rules.specs.Registers.{cellStored, padStored}
 use Rattle.rules.specs.Maps.{tagIn, cellOf, filled, holds, cellForgotten, forgotten}
-use Rattle.rules.proofs.Laws.Choices.{pick-same}
+use Rattle.rules.proofs.Laws.Choices.{pick-same, picked}
 use Rattle.rules.proofs.Laws.Lists.{take-set, take-map, take-replicate, getD-replicate-default, found-is-there, missing-is-nowhere}
 
 -- How many there are ------------------------------------------------------------------------------------------------------
@@ -62,6 +63,10 @@ empty-tag = refl
 pub empty-forgotten : (tag : ℕ) → cellForgotten tag emptyCell ≡ emptyCell
 unfolding cellForgotten
 empty-forgotten tag = pick-same (holds tag emptyCell) emptyCell
+
+pub cellStored-tag : (c : Cell) (p : Part) (v : ℕ) → cellStored c p v .tag ≡ c .tag
+unfolding cellStored
+cellStored-tag c p v = picked (λ (x : Cell). x .tag ≡ c .tag) (eqb (c .tag) 0) _ _ (λ t. refl) (λ t. refl)
 
 tag-at : (k : Cells) (i : ℕ) → getD (map tagIn (there k)) i (tagIn emptyCell) ≡ cellAt k i .tag
 unfolding tagIn

@@ -48,7 +48,7 @@ fn main() -> ExitCode {
 
 fn usage() -> ExitCode {
     eprintln!(
-        "usage: generate [--cells N] [--stats] SEED LINES, or generate --bytes SEED BYTES, or generate --near SEED BYTES"
+        "usage: generate [--cells N] [--stats] SEED LINES, or generate [--cells N] --bytes SEED BYTES, or generate [--cells N] --near SEED BYTES"
     );
     ExitCode::from(2)
 }
