@@ -6,4 +6,3 @@ pub mod Laws
 pub mod Sizes
 pub mod Demand1
 pub mod Demand3
-pub mod Computed

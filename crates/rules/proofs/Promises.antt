@@ -450,6 +450,9 @@ pub record MadeOrRefused : Type 0 where
 pub record FilledAt (i tag w : ℕ) (k : Cells) : Type 0 where
   pub cell : cellAt k i ≡ record { tag = tag; word = w }
   pub read : peeked k (Associative.Pad i) ≡ w
+  -- "then the counter steps .. and round"
+  pub next : i + 1 < countOf (k .size) → k .counter ≡ 0o10 + (i + 1)
+  pub round : i + 1 ≡ countOf (k .size) → k .counter ≡ 0o10
 
 abbrev pub CellByCounter : Type 0
 CellByCounter = (k : Cells) (i tag w : ℕ) → k .counter ≡ 0o10 + i → i < length (there k) → FilledAt i tag w (filled k tag w)
@@ -528,7 +531,7 @@ pub record ExecZeroUncelled : Type 0 where
   pub tag-other : (user : Bool) (p : ℕ) → execZero user p ≡ false → tagOf user p ≢ 0
   pub look-up : (m : Memory) (r : Maps) (k : Cells) → looked m r false 0 k ≡ record { entry = execZeroEntry r; cells = k }
 
--- Demand 3, second part: on the premises, which `meets` of specs/Runs.antt computes (Computed/Premises.antt has runs that meet them) ---
+-- Demand 3, second part: on the premises, which `meets` of specs/Runs.antt computes (`crates/worked` has runs that meet them) ---
 
 -- a cell that holds what the walk of its page now gives, so that this walk does not time out
 pub record HoldsItsPage (m : Memory) (r : Maps) (c : Cell) : Type 0 where

@@ -1,5 +1,5 @@
 -- Making a unit, how many cells it has, and that what stands past them is not seen.
-use Prim.Native.Nat.{ℕ, _-_, _*_, _%_}
+use Prim.Native.Nat.{ℕ, _+_, _-_, _*_, _%_}
 use mathlib.Core.Path.{_≡_, refl, sym, ap, ap₂, subst, _∙_}
 use mathlib.Core.Bool.{Bool, true, false}
 use mathlib.Core.List.{List, map}
@@ -8,7 +8,7 @@ use native.Mathlib.Omega.{arith}
 use lib.Dec.{eqb}
 use lib.ListN.{getD, set}
 use lib.Seq.{getD-set-same}
-use borrow.Author.Tests.{eqb-true, ne-eqb}
+use borrow.Author.Tests.{eqb-true, ne-eqb, lt-ltb, le-ltb}
 use Rattle.rules.specs.Types.{Core, Maps, Cell, Size, Making, Cells, Unit, Call, Found, Associative, Part, Walk, Entry, Looked, Effect, Outcome, Ran}
 use Rattle.rules.specs.Choice.{pick}
 use Rattle.rules.specs.Memory.{Memory}
@@ -56,13 +56,18 @@ made-or-refused =
 -- The cell that the counter names ------------------------------------------------------------------------------------------
 
 pub cell-by-counter : CellByCounter
-unfolding peeked
+unfolding peeked filled stepped pick
 cell-by-counter k i tag w e inside =
     let named : k .counter - 0o10 ≡ i = omega (arith, e) in
     let held : cellAt (filled k tag w) i ≡ record { tag = tag; word = w } =
     ap (λ (l : List Cell). getD l i emptyCell) (there-filled k tag w)
     ∙ rw named (getD-set-same (there k) i (record { tag = tag; word = w }) emptyCell inside) in
-    record { cell = held; read = ap (λ (c : Cell). c .word) held }
+    record {
+      cell = held;
+      read = ap (λ (c : Cell). c .word) held;
+      next = λ h. rw (lt-ltb (k .counter) (0o7 + countOf (k .size)) (omega (arith, e, h))) (omega (arith, e));
+      round = λ h. rw (le-ltb (k .counter) (0o7 + countOf (k .size)) (omega (arith, e, h)));
+    }
 
 -- The size stays -----------------------------------------------------------------------------------------------------------
 

@@ -3,16 +3,19 @@ use Prim.Native.Nat.{ℕ}
 use mathlib.Core.Path.{_≡_, refl}
 use mathlib.Core.List.{List, [], _∷_, _++_, map}
 use lib.ListN.{replicate}
-use Rattle.rules.specs.Types.{Unit, Access, Call, Physical}
+use Rattle.rules.specs.declared.Unit.{Unit}
+use Rattle.rules.specs.declared.Access.{Access}
+use Rattle.rules.specs.declared.Call.{Call}
+use Rattle.rules.specs.declared.Physical.{Physical}
 use Rattle.rules.specs.Memory.{Memory, storeWord}
 use Rattle.rules.specs.Status.{packed}
 use Rattle.rules.specs.Answers.{shown}
 use Rattle.rules.specs.Unit.{there}
 use Rattle.rules.specs.Maps.{tagIn}
 use Rattle.rules.specs.Runs.{Seen, seenAlong, stationAfter}
-use Rattle.rules.proofs.Computed.Opened.{opened}
-use Rattle.rules.proofs.Computed.Units.{eight, twentyFour}
-use Rattle.rules.proofs.Computed.Starred.{numberAt}
+use Rattle.worked.proofs.Opened.{opened}
+use Rattle.worked.proofs.Units.{eight, twentyFour}
+use Rattle.worked.proofs.Starred.{numberAt}
 
 -- what the bench program prints of a call: the answer's number, its data and physical address, and KTCS after it
 pub record Row : Type 0 where

@@ -5,17 +5,19 @@ use mathlib.Core.Path.{_≡_, refl, ap}
 use mathlib.Core.Bool.{Bool, true, false}
 use mathlib.Core.List.{List, [], _∷_, _++_, map}
 use lib.ListN.{length, replicate}
-use Rattle.rules.specs.Types.{Size, Call, Unit}
+use Rattle.rules.specs.declared.Size.{Size}
+use Rattle.rules.specs.declared.Call.{Call}
+use Rattle.rules.specs.declared.Unit.{Unit}
 use Rattle.rules.specs.Memory.{Memory, storeWord}
 use Rattle.rules.specs.Unit.{there}
 use Rattle.rules.specs.Maps.{tagIn}
 use Rattle.rules.specs.Answers.{shown}
 use Rattle.rules.specs.Calls.{callOf}
 use Rattle.rules.specs.Runs.{Seen, seenIn, seenAlong, stationAfter, plainOf, plainCall, plainAlong, deedOf, Use, unused, inUse, outdated, History, noneInUse, heard, noneOutdated, meets, historyOf}
 use Rattle.rules.proofs.Demand3.SameRun.{same-as-plain}
-use Rattle.rules.proofs.Computed.Opened.{opened}
-use Rattle.rules.proofs.Computed.Units.{eight, twentyFour}
-use Rattle.rules.proofs.Computed.Worked.{A}
+use Rattle.worked.proofs.Opened.{opened}
+use Rattle.worked.proofs.Units.{eight, twentyFour}
+use Rattle.worked.proofs.Worked.{A}
 
 -- the number of an answer and its data
 pub record Told : Type 0 where

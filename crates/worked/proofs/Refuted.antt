@@ -4,16 +4,19 @@ use mathlib.Core.Path.{_≡_, sym, ap, _∙_}
 use mathlib.Core.List.{[], _∷_}
 use native.Mathlib.Omega.{arith}
 use lib.ListN.{getD}
-use Rattle.rules.specs.Types.{Unit, Access, Call, Physical}
+use Rattle.rules.specs.declared.Unit.{Unit}
+use Rattle.rules.specs.declared.Access.{Access}
+use Rattle.rules.specs.declared.Call.{Call}
+use Rattle.rules.specs.declared.Physical.{Physical}
 use Rattle.rules.specs.Memory.{Memory}
 use Rattle.rules.specs.Answers.{shown}
 use Rattle.rules.specs.Calls.{After, callOf}
 use Rattle.rules.specs.Runs.{stationAfter}
-use Rattle.rules.proofs.Computed.Opened.{opened}
-use Rattle.rules.proofs.Computed.Units.{eight}
-use Rattle.rules.proofs.Computed.Worked.{A}
+use Rattle.worked.proofs.Opened.{opened}
+use Rattle.worked.proofs.Units.{eight}
+use Rattle.worked.proofs.Worked.{A}
 use Rattle.rules.proofs.Promises.{numberOf}
-use Rattle.rules.proofs.Computed.Premises.{memory, pagingOn, readPage}
+use Rattle.worked.proofs.Premises.{memory, pagingOn, readPage}
 
 -- a program in the unit's place: what it makes of memory, unit and call
 abbrev pub Program : Type 0

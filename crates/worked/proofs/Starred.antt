@@ -4,14 +4,20 @@ use mathlib.Core.Path.{_≡_, refl}
 use mathlib.Core.Bool.{true, false}
 use mathlib.Core.List.{List, [], _∷_, map}
 use lib.ListN.{replicate}
-use Rattle.rules.specs.Types.{Maps, Size, Cells, Access, Call, Entry, Answer}
+use Rattle.rules.specs.declared.Maps.{Maps}
+use Rattle.rules.specs.declared.Size.{Size}
+use Rattle.rules.specs.declared.Cells.{Cells}
+use Rattle.rules.specs.declared.Access.{Access}
+use Rattle.rules.specs.declared.Call.{Call}
+use Rattle.rules.specs.declared.Entry.{Entry}
+use Rattle.rules.specs.declared.Answer.{Answer}
 use Rattle.rules.specs.Memory.{Memory}
 use Rattle.rules.specs.Unit.{countOf, there}
 use Rattle.rules.specs.Maps.{unpagedAt, pageOf, physicalAt, high7, pointedAt, wordWalk, pointerWalk, walkOf, walked, entryOf, looked, stepped, tagIn}
 use Rattle.rules.specs.Answers.{shown}
 use Rattle.rules.specs.Calls.{callOf}
-use Rattle.rules.proofs.Computed.Opened.{opened}
-use Rattle.rules.proofs.Computed.Units.{eight}
+use Rattle.worked.proofs.Opened.{opened}
+use Rattle.worked.proofs.Units.{eight}
 
 -- the fresh unit's answer to an access, which is unpaged
 abbrev pub answerTo : Memory → Access → Answer

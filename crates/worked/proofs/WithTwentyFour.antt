@@ -3,17 +3,23 @@ use Prim.Native.Nat.{ℕ}
 use mathlib.Core.Path.{_≡_, refl}
 use mathlib.Core.List.{List, [], _∷_, _++_, map}
 use lib.ListN.{drop, replicate}
-use Rattle.rules.specs.Types.{Size, Cells, Unit, Associative, Register, Target, Place}
+use Rattle.rules.specs.declared.Size.{Size}
+use Rattle.rules.specs.declared.Cells.{Cells}
+use Rattle.rules.specs.declared.Unit.{Unit}
+use Rattle.rules.specs.declared.Associative.{Associative}
+use Rattle.rules.specs.declared.Register.{Register}
+use Rattle.rules.specs.declared.Target.{Target}
+use Rattle.rules.specs.declared.Place.{Place}
 use Rattle.rules.specs.Memory.{Memory}
 use Rattle.rules.specs.Unit.{countOf, there}
 use Rattle.rules.specs.Registers.{placeOf, peeked}
 use Rattle.rules.specs.Maps.{tagIn, stepped}
 use Rattle.rules.specs.Runs.{seenAlong}
-use Rattle.rules.proofs.Computed.Opened.{opened}
-use Rattle.rules.proofs.Computed.Units.{eight, twentyFour}
-use Rattle.rules.proofs.Computed.Starred.{lookedFor}
-use Rattle.rules.proofs.Computed.Worked.{A}
-use Rattle.rules.proofs.Computed.Premises.{Told, toldBy, ans, stored, W, nineByExecute}
+use Rattle.worked.proofs.Opened.{opened}
+use Rattle.worked.proofs.Units.{eight, twentyFour}
+use Rattle.worked.proofs.Starred.{lookedFor}
+use Rattle.worked.proofs.Worked.{A}
+use Rattle.worked.proofs.Premises.{Told, toldBy, ans, stored, W, nineByExecute}
 
 -- one page more than there are cells
 abbrev pub pages1to25 : List ℕ

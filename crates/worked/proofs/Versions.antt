@@ -7,17 +7,22 @@ use mathlib.Core.Bool.{true}
 use mathlib.Core.List.{List, [], _∷_, _++_, map}
 use lib.Dec.{eqb}
 use lib.ListN.{replicate}
-use Rattle.rules.specs.Types.{Maps, Cells, Unit, Call, Effect, Ran}
+use Rattle.rules.specs.declared.Maps.{Maps}
+use Rattle.rules.specs.declared.Cells.{Cells}
+use Rattle.rules.specs.declared.Unit.{Unit}
+use Rattle.rules.specs.declared.Call.{Call}
+use Rattle.rules.specs.declared.Effect.{Effect}
+use Rattle.rules.specs.declared.Ran.{Ran}
 use Rattle.rules.specs.Choice.{pick}
 use Rattle.rules.specs.Memory.{Memory, storeWord}
 use Rattle.rules.specs.Unit.{emptied}
 use Rattle.rules.specs.Program.{run}
 use Rattle.rules.specs.Calls.{After, called, mapsAfter, cellsAfter, memoryAfter, settled, callOf}
 use Rattle.rules.specs.Runs.{Seen, seenIn, seenAlong, noneInUse, meets}
-use Rattle.rules.proofs.Computed.Opened.{opened}
-use Rattle.rules.proofs.Computed.Units.{eight}
-use Rattle.rules.proofs.Computed.Worked.{A}
-use Rattle.rules.proofs.Computed.Premises.{toldBy, ans, stored, W, memory, pagingOn, readPage, movePage, sumOf}
+use Rattle.worked.proofs.Opened.{opened}
+use Rattle.worked.proofs.Units.{eight}
+use Rattle.worked.proofs.Worked.{A}
+use Rattle.worked.proofs.Premises.{toldBy, ans, stored, W, memory, pagingOn, readPage, movePage, sumOf}
 
 -- what a version leaves in the cells: by the call, the map registers before it, its effect, and the cells after its look-ups
 abbrev pub Version : Type 0
