@@ -17,13 +17,13 @@ fn bare(number: u16) -> Returned
     }
 }
 
-// "4-8 | AV, RV, WV, PV, IV", "9 | time-out"
+// "4-8 | AV, RV, WV, PV, IV", "9 | time-out"; "10 takes 9's place at step 6" (T-01)
 pub fn fault_shown(f: Fault) -> Returned
     ensures { λ r. ⌜ r ≡ faultShown f ⌝ }
 {
     match f {
         Fault::OddAddress => bare(4),
-        Fault::NoMapWord => bare(9),
+        Fault::NoMapWord => bare(10),
         Fault::NotResident => bare(5),
         Fault::NotWritable => bare(6),
         Fault::NotPublic => bare(7),

@@ -34,7 +34,7 @@ pub fn sequenced(w: u16, c: Core) -> Outcome
     }
 }
 
-// Answers 4 to 8 and a paged 9: "the cell of the page at fault (a window's inner one once reached) empties".
+// Answers 4 to 8, 10 and a paged 9: "the cell of the page at fault (a window's inner one once reached) empties".
 fn faulted(j: Job, inner: bool, tag: u16, f: Fault) -> Outcome
     ensures { λ r. ⌜ done r ≡ faulted j inner tag f ⌝ }
 {

@@ -12,7 +12,7 @@ ghost use Rattle.rules.specs.Maps.{execZeroEntry, tagOf, cellOf, filledBy, miss
 
 // The walk -------------------------------------------------------------------------------------------------------------
 
-// "A map word or pointer at or beyond L is a time-out."
+// "A map word or pointer at or beyond L is a time-out.": "The walk itself should report that it ran off memory" (T-01).
 fn word_walk(m: &[u8], at: usize) -> Walk
     ensures { λ r. ⌜ r ≡ wordWalk (now (m .entry)) at ⌝ }
 {
@@ -98,7 +98,7 @@ fn exec_zero_entry(maps: Maps) -> Entry
     Entry::ExecZero(pages::low9(maps.ktem))
 }
 
-// "A finished walk fills the cell the counter names .. A walk that times out fills nothing."
+// "A finished walk fills the cell the counter names .. A walk that times out fills nothing.", which is one that ran off memory.
 fn filled_by(k: Cells, tag: u16, w: Walk) -> Cells
     ensures { λ r. ⌜ r ≡ filledBy k tag w ⌝ }
 {

@@ -4,6 +4,7 @@ pub mod Determined
 pub mod InOrder
 pub mod Kept
 pub mod Ended
+pub mod Reasons
 pub mod Effects
 pub mod Bits
 pub mod Interrupts

@@ -3,11 +3,11 @@
 use Prim.Native.Nat.{ℕ, _+_, _-_, _≤_, _<_}
 use mathlib.Core.Bool.{Bool, true, false, not, _&&_, _||_}
 use mathlib.Core.Path.{_≡_}
-use mathlib.Core.Logic.{_≢_}
+use mathlib.Core.Logic.{_≢_, _↔_}
 use mathlib.Core.List.{List, [], _∷_, _++_}
 use lib.Dec.{eqb}
 use lib.ListN.{length, getD, replicate}
-use Rattle.rules.specs.Types.{Wait, Ktcs, Fetch, Core, Maps, Cell, Size, Making, Cells, Unit, Access, Call, Found, Associative, Target, Place, Part, Entry, Looked, Due, Fault, Answer, Physical, Effect, Job}
+use Rattle.rules.specs.Types.{Wait, Ktcs, Fetch, Core, Maps, Cell, Size, Making, Cells, Unit, Access, Call, Found, Associative, Target, Place, Part, Walk, Entry, Looked, Due, Fault, Answer, Physical, Effect, Job}
 use Rattle.rules.specs.Choice.{pick}
 use Rattle.rules.specs.Memory.{Memory}
 use Rattle.rules.specs.Unit.{countOf, sizeOf, room, there, emptyCell, cellAt, clearFetch}
@@ -42,7 +42,7 @@ outerTag u q = tagOf (job u q .core .ktcs .um) (pageOf (q .addr))
 abbrev pub innerTag : Unit → Access → ℕ
 innerTag u q = tagOf true (pageOf (windowAddr (job u q)))
 
--- the physical page that an entry names; a walk that timed out names none, and no test asks further
+-- the physical page that an entry names; a walk that ran off memory names none, and no test asks further
 abbrev pub pageNamed : Entry → ℕ
 pageNamed Entry.OffMap = 0
 pageNamed (Entry.ExecZero page) = page
@@ -81,7 +81,8 @@ abbrev pub allPass : List Test → Bool
 allPass [] = true
 allPass (t ∷ ts) = not (t .refuses) && allPass ts
 
--- "6. Walk (9). 7. Residency (5). 8. Write key for operations 1-3 (6). 9. Privacy (7).", the last of an access that is watched: "not a fetch, flag set"
+-- "6. Walk (9).", where "10 takes 9's place" (T-01), "7. Residency (5). 8. Write key for operations 1-3 (6). 9. Privacy (7).", the last of an
+-- access that is watched: "not a fetch, flag set"
 abbrev pub entryTests : ℕ → Bool → Entry → List Test
 entryTests op watched Entry.OffMap = test true (Answer.Fault Fault.NoMapWord) ∷ []
 entryTests op watched (Entry.ExecZero page) = []
@@ -170,28 +171,91 @@ abbrev pub numberOf : After → ℕ
 numberOf a = shown (a .reply .answer) .number
 
 -- the numbers of those answers in 01: "1. Shape (answer 1). 2. The wait (2) .. 3. Unpaged odd word (3)", "Paged odd word (4). 6. Walk (9). 7. Residency
--- (5). 8. Write key .. (6). 9. Privacy (7). 10. Target .. (9). 11. For a fetch, the word (8)."
+-- (5). 8. Write key .. (6). 9. Privacy (7). 10. Target .. (9). 11. For a fetch, the word (8)."; and "10 takes 9's place at step 6 .. 9 stays at step
+-- 10" (T-01)
 pub record NumbersOfSteps : Type 0 where
   pub shape : shown Answer.Misshapen .number ≡ 1
   pub wait : shown Answer.NotDue .number ≡ 2
   pub unpaged-odd : shown Answer.UnpagedOdd .number ≡ 3
   pub paged-odd : shown (Answer.Fault Fault.OddAddress) .number ≡ 4
-  pub walk : shown (Answer.Fault Fault.NoMapWord) .number ≡ 9
+  pub walk : shown (Answer.Fault Fault.NoMapWord) .number ≡ 10
   pub residency : shown (Answer.Fault Fault.NotResident) .number ≡ 5
   pub write-key : shown (Answer.Fault Fault.NotWritable) .number ≡ 6
   pub privacy : shown (Answer.Fault Fault.NotPublic) .number ≡ 7
   pub target : shown (Answer.Fault Fault.NoTarget) .number ≡ 9
   pub fetched-word : (w at : ℕ) → shown (Answer.Fault (Fault.Forbidden w at)) .number ≡ 8
 
--- "a call has an answer, one of 0 to 9": `callOf` is a function, so that there always is one
+-- a call has an answer, one of 0 to 10: `callOf` is a function, so that there always is one
 abbrev pub Numbered : Type 0
-Numbered = (m : Memory) (u : Unit) (c : Call) → numberOf (callOf m u c) < 10
+Numbered = (m : Memory) (u : Unit) (c : Call) → numberOf (callOf m u c) < 11
 
 -- "18-bit address": of an access at a 16-bit address, each physical address that comes back is one
 abbrev pub EighteenBits : Type 0
 EighteenBits =
     (m : Memory) (u : Unit) (q : Access) (at : ℕ) → q .addr < 0o200000
     → shown (callOf m u (Call.Access q) .reply .answer) .physical ≡ Physical.At at → at < 0o1000000
+
+-- Demand 1: the two reasons, a walk that ran off memory (10) and a target that is not there (9) ---------------------------
+
+-- steps 1 and 2 passed, and whether the access is unpaged
+pub record GoesOn (m : Memory) (u : Unit) (q : Access) (without-maps : Bool) : Type 0 where
+  pub shaped : wellShaped (length m) q ≡ true
+  pub due : dueOf (u .core) q ≡ Due.Steps
+  pub mode : unpaged (u .core .ktcs .fcn) (q .state) ≡ without-maps
+
+-- "The walk itself should report that it ran off memory" (T-01): the page is walked, since no cell of k holds it, and its walk does not finish
+pub record RanOff (m : Memory) (r : Maps) (k : Cells) (user : Bool) (p : ℕ) : Type 0 where
+  pub no-cell : (i : ℕ) → cellAt k i .tag ≢ tagOf user p
+  pub walk : walkOf m r user p ≡ Walk.Off
+
+-- the walk of the access's own page; exec page 0 is never walked
+pub record OuterRanOff (m : Memory) (u : Unit) (q : Access) : Type 0 where
+  pub even : oddWord (q .width) (q .addr) ≡ false
+  pub not-exec-zero : execZero (u .core .ktcs .um) (pageOf (q .addr)) ≡ false
+  pub ran-off : RanOff m (u .maps) (u .cells) (u .core .ktcs .um) (pageOf (q .addr))
+
+-- a paged access that goes on through the window: all tests of its own page pass
+pub record GoesInside (m : Memory) (u : Unit) (q : Access) : Type 0 where
+  pub passes : allPass (outerTests m u q) ≡ true
+  pub window : outerPlace m u q ≡ Place.Window
+  pub no-fetch : isFetch q ≡ false
+  pub even : oddWord (q .width) (getD (u .core .kept) ktad 0) ≡ false
+
+-- "also in the window's inner walk": of KTAD's page as a user's, by the cells that the outer look-up left
+pub record InnerRanOff (m : Memory) (u : Unit) (q : Access) : Type 0 where
+  pub inside : GoesInside m u q
+  pub ran-off : RanOff m (u .maps) (outer m u q .cells) true (pageOf (getD (u .core .kept) ktad 0))
+
+-- what 10 means
+pub data WalkRanOff (m : Memory) (u : Unit) : Call → Type 0 where
+  outer-walk : {q : Access} → GoesOn m u q false → OuterRanOff m u q → WalkRanOff m u (Call.Access q)
+  inner-walk : {q : Access} → GoesOn m u q false → InnerRanOff m u q → WalkRanOff m u (Call.Access q)
+
+-- "9 stays for targets" (T-01): of an unpaged access, of the access's own page, all of whose keys pass, and of a window's inner page alike
+pub record UnpagedNowhere (m : Memory) (u : Unit) (q : Access) : Type 0 where
+  pub even : oddWord (q .width) (q .addr) ≡ false
+  pub nowhere : noTarget true (placeOf (u .cells .size) (length m) (unpagedAt (q .addr))) ≡ true
+
+pub record OuterNowhere (m : Memory) (u : Unit) (q : Access) : Type 0 where
+  pub even : oddWord (q .width) (q .addr) ≡ false
+  pub passes : allPass (entryTests (q .op) (watches (job u q .core .fetch) q) (outer m u q .entry)) ≡ true
+  pub nowhere : noTarget (isFetch q) (outerPlace m u q) ≡ true
+
+pub record InnerNowhere (m : Memory) (u : Unit) (q : Access) : Type 0 where
+  pub inside : GoesInside m u q
+  pub passes : allPass (entryTests (q .op) false (inner m u q .entry)) ≡ true
+  pub nowhere : noTarget true (placeOf (u .cells .size) (length m) (innerPhysical m u q)) ≡ true
+
+-- what 9 means
+pub data TargetNowhere (m : Memory) (u : Unit) : Call → Type 0 where
+  unpaged-target : {q : Access} → GoesOn m u q true → UnpagedNowhere m u q → TargetNowhere m u (Call.Access q)
+  outer-target : {q : Access} → GoesOn m u q false → OuterNowhere m u q → TargetNowhere m u (Call.Access q)
+  inner-target : {q : Access} → GoesOn m u q false → InnerNowhere m u q → TargetNowhere m u (Call.Access q)
+
+-- "All callers of the walk then speak of two reasons where they spoke of one." (T-01)
+pub record TwoReasons : Type 0 where
+  pub walk : (m : Memory) (u : Unit) (c : Call) → (numberOf (callOf m u c) ≡ 10) ↔ WalkRanOff m u c
+  pub target : (m : Memory) (u : Unit) (c : Call) → (numberOf (callOf m u c) ≡ 9) ↔ TargetNowhere m u c
 
 -- Demand 1: memory -------------------------------------------------------------------------------------------------------
 
@@ -255,14 +319,14 @@ pub record Step4Keeps (q : Access) (c d : Core) : Type 0 where
 abbrev pub Step4Leaves : Type 0
 Step4Leaves = (c : Core) (q : Access) → Step4Keeps q c (noted c q)
 
--- Step 6 for a page makes l of the cells k. It fills at most the cell that the counter names; a hit, a walk that timed out and exec page 0 leave
--- the cells and the counter.
+-- Step 6 for a page makes l of the cells k. It fills at most the cell that the counter names; a hit, a walk that ran off memory and exec page 0
+-- leave the cells and the counter.
 pub record Step6Keeps (user : Bool) (p : ℕ) (k : Cells) (l : Looked) : Type 0 where
   pub size : l .cells .size ≡ k .size
   pub count : length (there (l .cells)) ≡ length (there k)
   pub others : (i : ℕ) → i ≢ k .counter - 0o10 → cellAt (l .cells) i ≡ cellAt k i
   pub hit : {i : ℕ} → cellOf k (tagOf user p) ≡ Found.At i → l .cells ≡ k
-  pub timed-out : l .entry ≡ Entry.OffMap → l .cells ≡ k
+  pub ran-off : l .entry ≡ Entry.OffMap → l .cells ≡ k
   pub exec-zero : execZero user p ≡ true → l .cells ≡ k
 
 abbrev pub Step6Leaves : Type 0
@@ -287,15 +351,15 @@ pub record UnpagedTimeOut (u : Unit) (q : Access) (a : After) : Type 0 where
   pub wait : a .reply .unit .core .wait ≡ u .core .wait
   pub fetch : a .reply .unit .core .fetch ≡ noted (u .core) q .fetch
 
--- and an unpaged access is not answered by 4 to 8
+-- and an unpaged access is not answered by 4 to 8, nor by 10
 abbrev pub UnpagedRefusal : Type 0
 UnpagedRefusal =
     (m : Memory) (u : Unit) (q : Access) → unpaged (u .core .ktcs .fcn) (q .state) ≡ true → 3 < numberOf (callOf m u (Call.Access q))
     → UnpagedTimeOut u q (callOf m u (Call.Access q))
 
--- Answers 4 to 8 and a paged 9 make d of the core c. SS, DS and KTIC are as step 4 left them, KTSP, KTPC and KTPS as they were, KTAD too in a
+-- Answers 4 to 8, 10 and a paged 9 make d of the core c. SS, DS and KTIC are as step 4 left them, KTSP, KTPC and KTPS as they were, KTAD too in a
 -- window's inner access. Of the five flags the fault's own is set, and the others are as they were: "AV, RV, WV, PV, IV" are answers 4 to 8, and 9
--- has none. "IU takes UM; UM clears; FCN 3 becomes 2; .. fetch memory clears; the unit waits for two SERVICE DATOs."
+-- and 10 have none. "IU takes UM; UM clears; FCN 3 becomes 2; .. fetch memory clears; the unit waits for two SERVICE DATOs."
 pub record ViolationKeeps (q : Access) (window : Bool) (f : Fault) (c d : Core) : Type 0 where
   pub fcn : eqb (c .ktcs .fcn) 3 ≡ false → d .ktcs .fcn ≡ c .ktcs .fcn
   pub fcn-three : eqb (c .ktcs .fcn) 3 ≡ true → d .ktcs .fcn ≡ 2
@@ -336,7 +400,7 @@ cellsLooked m u q =
     pick (oddWord (q .width) (q .addr)) (u .cells)
     (pick (faultInside m u q && not (oddWord (q .width) (windowAddr (job u q)))) (inner m u q .cells) (outer m u q .cells))
 
--- "answers 4 to 8 and a paged 9 change only what steps 4 and 6 do and the sequence"
+-- "answers 4 to 8 and a paged 9 change only what steps 4 and 6 do and the sequence", and so does 10 (T-01)
 pub record Violation (m : Memory) (u : Unit) (q : Access) (a : After) : Type 0 where
   pub fault : Fault
   pub answer : a .reply .answer ≡ Answer.Fault fault
@@ -350,6 +414,10 @@ abbrev pub PagedRefusal : Type 0
 PagedRefusal =
     (m : Memory) (u : Unit) (q : Access) → unpaged (u .core .ktcs .fcn) (q .state) ≡ false → 3 < numberOf (callOf m u (Call.Access q))
     → Violation m u q (callOf m u (Call.Access q))
+
+-- "State changes are as for 9" (T-01), of the core; maps and cells go by no fault, in `Violation`
+abbrev pub AsForNine : Type 0
+AsForNine = (c : Core) (q : Access) (window : Bool) → violated c q window Fault.NoMapWord ≡ violated c q window Fault.NoTarget
 
 -- Demand 1: what interrupt, trap and INIT leave alone --------------------------------------------------------------------
 
@@ -533,7 +601,7 @@ pub record ExecZeroUncelled : Type 0 where
 
 -- Demand 3, second part: on the premises, which `meets` of specs/Runs.antt computes (`crates/worked` has runs that meet them) ---
 
--- a cell that holds what the walk of its page now gives, so that this walk does not time out
+-- a cell that holds what the walk of its page now gives, so that this walk does not run off memory
 pub record HoldsItsPage (m : Memory) (r : Maps) (c : Cell) : Type 0 where
   pub user : Bool
   pub page : ℕ
@@ -567,12 +635,14 @@ pub record Promises : Type 0 where
   pub answered-in-order : AnsweredInOrder
   pub numbers-of-steps : NumbersOfSteps
   pub numbered : Numbered
+  pub two-reasons : TwoReasons
   pub eighteen-bits : EighteenBits
   pub memory-untouched : MemoryUntouched
   pub length-kept : LengthKept
   pub refused-unchanged : RefusedUnchanged
   pub unpaged-refusal : UnpagedRefusal
   pub paged-refusal : PagedRefusal
+  pub as-for-nine : AsForNine
   pub step4-leaves : Step4Leaves
   pub step6-leaves : Step6Leaves
   pub interrupt-leaves : InterruptLeaves

@@ -1,7 +1,8 @@
 -- All promises of demands 1 and 3 and of the making of a unit, each from the file that proves it.
 use Rattle.rules.proofs.Promises.{Promises}
 use Rattle.rules.proofs.Demand1.InOrder.{answered-in-order}
-use Rattle.rules.proofs.Demand1.Ended.{numbers-of-steps, numbered, memory-untouched, length-kept, refused-unchanged, unpaged-refusal, paged-refusal}
+use Rattle.rules.proofs.Demand1.Ended.{numbers-of-steps, numbered, memory-untouched, length-kept, refused-unchanged, unpaged-refusal, paged-refusal, as-for-nine}
+use Rattle.rules.proofs.Demand1.Reasons.{two-reasons}
 use Rattle.rules.proofs.Demand1.Bits.{eighteen-bits}
 use Rattle.rules.proofs.Demand1.Kept.{step4-leaves, step6-leaves}
 use Rattle.rules.proofs.Demand1.Interrupts.{interrupt-leaves, trap-leaves, exec-trap-unchanged, other-trap-unchanged, init-leaves}
@@ -17,12 +18,14 @@ promises =
       answered-in-order = answered-in-order;
       numbers-of-steps = numbers-of-steps;
       numbered = numbered;
+      two-reasons = two-reasons;
       eighteen-bits = eighteen-bits;
       memory-untouched = memory-untouched;
       length-kept = length-kept;
       refused-unchanged = refused-unchanged;
       unpaged-refusal = unpaged-refusal;
       paged-refusal = paged-refusal;
+      as-for-nine = as-for-nine;
       step4-leaves = step4-leaves;
       step6-leaves = step6-leaves;
       interrupt-leaves = interrupt-leaves;

@@ -6,10 +6,10 @@ use Rattle.rules.specs.Types.{Making, Fault, Answer, Physical, Returned}
 unfoldable pub shownAs : ℕ → ℕ → Physical → Returned
 shownAs n d at = record { number = n; datum = d; physical = at }
 
--- "4-8 | AV, RV, WV, PV, IV", "9 | time-out"
+-- "4-8 | AV, RV, WV, PV, IV", "9 | time-out"; and "10 takes 9's place at step 6, also in the window's inner walk; 9 stays at step 10." (T-01)
 unfoldable pub faultShown : Fault → Returned
 faultShown Fault.OddAddress = shownAs 4 0 Physical.Nowhere
-faultShown Fault.NoMapWord = shownAs 9 0 Physical.Nowhere
+faultShown Fault.NoMapWord = shownAs 10 0 Physical.Nowhere
 faultShown Fault.NotResident = shownAs 5 0 Physical.Nowhere
 faultShown Fault.NotWritable = shownAs 6 0 Physical.Nowhere
 faultShown Fault.NotPublic = shownAs 7 0 Physical.Nowhere

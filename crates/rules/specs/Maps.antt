@@ -65,7 +65,8 @@ lowerAt page p = 512 * page + 2 * p
 unfoldable pub pointedAt : ℕ → ℕ
 pointedAt w = upperAt (low9 w) (high7 w)
 
--- "A map word or pointer at or beyond L is a time-out.": a walk that reads the word at this address
+-- A walk that reads the word at this address: "A map word or pointer at or beyond L is a time-out.", and "The walk itself should report that it ran
+-- off memory" (T-01). No map word is read from a register: these stand beyond L.
 unfoldable pub unlessOff : Memory → ℕ → Walk → Walk
 unlessOff m at w = pick (ltb at (length m)) w Walk.Off
 
@@ -143,7 +144,7 @@ filled k tag w =
       counter = stepped (countOf (k .size)) (k .counter);
     }
 
--- "A finished walk fills the cell .. A walk that times out fills nothing."
+-- "A finished walk fills the cell .. A walk that times out fills nothing.", which is one that ran off memory
 unfoldable pub filledBy : Cells → ℕ → Walk → Cells
 filledBy k tag (Walk.Finished w rs) = filled k tag w
 filledBy k tag Walk.Off = k

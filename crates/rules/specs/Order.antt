@@ -25,7 +25,7 @@ outcome a c e = record { answer = a; core = c; effect = e }
 unfoldable pub refused : Core → Answer → Prog
 refused c a = done (outcome a c Effect.Keep)
 
--- answers 4 to 8 and a paged 9: the sequence, and "the cell of the page at fault .. empties"; `inner` for a window's inner access
+-- answers 4 to 8, 10 and a paged 9: the sequence, and "the cell of the page at fault .. empties"; `inner` for a window's inner access
 unfoldable pub faulted : Job → Bool → ℕ → Fault → Prog
 faulted j inner tag f = done (outcome (Answer.Fault f) (violated (j .core) (j .q) inner f) (Effect.Forget tag))
 

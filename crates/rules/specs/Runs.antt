@@ -155,7 +155,7 @@ History = ℕ → Use
 unfoldable pub noneInUse : History
 noneInUse t = unused
 
--- "A page comes into use when an access gets its entry." One that is in use stays as it came.
+-- "A page comes into use when an access gets its entry.": a walk that ran off memory gives none. One that is in use stays as it came.
 unfoldable pub usedBy : Walk → Use → Use
 usedBy (Walk.Finished w rs) unused = inUse (readsOf rs)
 usedBy (Walk.Finished w rs) (inUse ws) = inUse ws
@@ -177,7 +177,7 @@ struck at unused = unused
 struck at (inUse ws) = pick (among (evenOf at) ws) outdated (inUse ws)
 struck at outdated = outdated
 
--- "It is forgotten by INIT, a KTUM or KTEM store, or any of answers 4 to 9 with it as the page at fault."
+-- "It is forgotten by INIT, a KTUM or KTEM store, or any of answers 4 to 9 with it as the page at fault.", and by 10 (T-01)
 unfoldable pub historyAfter : Effect → History → History
 historyAfter Effect.Keep h t = h t
 historyAfter (Effect.Forget tag) h t = told h tag unused t

@@ -1,4 +1,4 @@
--- What answers 4 to 9, an interrupt, a trap and the sequence accesses do to the core (01, "Sequences").
+-- What answers 4 to 10, an interrupt, a trap and the sequence accesses do to the core (01, "Sequences").
 use Prim.Native.Nat.{ℕ}
 use mathlib.Core.Bool.{Bool, true, false, not, _&&_}
 use mathlib.Core.List.{List}
@@ -20,7 +20,7 @@ serviceAwaited s kept = record { ktcs = withModes s (s .fcn) false (s .um); kept
 
 -- A violation ------------------------------------------------------------------------------------------------------------
 
--- "its flag is set (9 has none)"
+-- "its flag is set (9 has none)", and 10 has none: "State changes are as for 9" (T-01)
 unfoldable pub flagged : Ktcs → Fault → Ktcs
 flagged s Fault.OddAddress = withFlags s (s .rv) (s .pv) (s .wv) true (s .iv)
 flagged s Fault.NoMapWord = s
@@ -52,11 +52,11 @@ faultData q (Fault.Forbidden w at) = w
 unfoldable pub addressKept : List ℕ → Bool → ℕ → List ℕ
 addressKept kept inner a = pick inner kept (set kept ktad a)
 
--- KTAD and KTDT after answers 4 to 9
+-- KTAD and KTDT after answers 4 to 10
 unfoldable pub linesKept : List ℕ → Bool → ℕ → ℕ → List ℕ
 linesKept kept inner a d = set (addressKept kept inner a) ktdt d
 
--- "Any of answers 4-8, or a paged 9", of the core
+-- "Any of answers 4-8, or a paged 9", and 10 (T-01), of the core
 unfoldable pub violated : Core → Access → Bool → Fault → Core
 violated c q inner f = serviceAwaited (flagged (startEnded (c .ktcs)) f) (linesKept (c .kept) inner (q .addr) (faultData q f))
 

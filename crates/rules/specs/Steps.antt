@@ -64,7 +64,7 @@ keysOf op watched w =
     (pick (not (eqb op 0) && not (writeBit w)) (Ruling.Refused Fault.NotWritable)
     (pick (watched && not (publicBit w)) (Ruling.Refused Fault.NotPublic) (Ruling.Granted (low9 w))))
 
--- "6. Walk (9)." and the keys. "Exec page 0: physical page M of KTEM, no cell, every key passes."
+-- "6. Walk (9).", where "10 takes 9's place" (T-01), and the keys. "Exec page 0: physical page M of KTEM, no cell, every key passes."
 unfoldable pub judged : ℕ → Bool → Entry → Ruling
 judged op watched Entry.OffMap = Ruling.Refused Fault.NoMapWord
 judged op watched (Entry.ExecZero page) = Ruling.Granted page

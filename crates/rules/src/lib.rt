@@ -233,7 +233,7 @@ pub enum Walk {
 
 // What an access gets for its page.
 pub enum Entry {
-    // The walk timed out.
+    // The walk ran off memory.
     OffMap,
     // Exec page 0: its physical page.
     ExecZero(u16),
@@ -276,7 +276,7 @@ pub enum Due {
 pub enum Fault {
     // Step 5.
     OddAddress,
-    // Step 6.
+    // Step 6: the walk ran off memory.
     NoMapWord,
     // Step 7.
     NotResident,
@@ -284,7 +284,7 @@ pub enum Fault {
     NotWritable,
     // Step 9.
     NotPublic,
-    // Step 10.
+    // Step 10: a time-out at the target.
     NoTarget,
     // Step 11, with the fetched word and its physical address.
     Forbidden(u16, usize),

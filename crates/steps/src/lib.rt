@@ -36,7 +36,7 @@ pub fn keys_of(op: u64, watched: bool, w: u16) -> Ruling
     Ruling::Granted(w % 512)
 }
 
-// "6. Walk (9)." and the keys. "Exec page 0: .. every key passes."
+// "6. Walk (9).", where "10 takes 9's place" (T-01), and the keys. "Exec page 0: .. every key passes."
 pub fn judged(op: u64, watched: bool, e: Entry) -> Ruling
     ensures { λ r. ⌜ r ≡ judged op watched e ⌝ }
 {

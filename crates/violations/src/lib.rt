@@ -1,4 +1,4 @@
-// What answers 4 to 9 do to the core: the flag, KTAD and KTDT, and the wait for SERVICE (01, "Sequences").
+// What answers 4 to 10 do to the core: the flag, KTAD and KTDT, and the wait for SERVICE (01, "Sequences").
 ghost use mathlib.Core.Path.{_≡_};
 ghost use lib.Dec.{eqb};
 ghost use Rattle.rules.specs.Choice.{pick};
@@ -24,7 +24,7 @@ pub fn service_awaited(s: Ktcs, kept: [u16; KEPT]) -> Core
     }
 }
 
-// "its flag is set (9 has none)"
+// "its flag is set (9 has none)", and 10 has none: "State changes are as for 9" (T-01).
 pub fn flagged(s: Ktcs, f: Fault) -> Ktcs
     ensures { λ r. ⌜ r ≡ flagged s f ⌝ }
 {
@@ -93,7 +93,7 @@ pub fn lines_kept(kept: [u16; KEPT], inner: bool, a: u16, d: u16) -> [u16; KEPT]
     registers::kept_stored(address_kept(kept, inner, a), registers::KTDT, d)
 }
 
-// "Any of answers 4-8, or a paged 9", of the core.
+// "Any of answers 4-8, or a paged 9", and 10 (T-01), of the core.
 pub fn violated(c: Core, q: Access, inner: bool, f: Fault) -> Core
     ensures { λ r. ⌜ r ≡ violated c q inner f ⌝ }
 {

@@ -10,29 +10,30 @@ use borrow.Author.Tests.{ltb-true, ltb-false, eqb-true, eqb-false}
 use Rattle.rules.specs.Types.{Core, Cells, Unit, Access, Call, Operating, Associative, Register, Target, Part, Fault, Answer, Effect, Ran}
 use Rattle.rules.specs.Memory.{Memory, storeWord, storeByte}
 use Rattle.rules.specs.Unit.{withKept}
-use Rattle.rules.specs.Registers.{partOf}
-use Rattle.rules.specs.Maps.{unpaged}
+use Rattle.rules.specs.Registers.{placeOf, partOf}
+use Rattle.rules.specs.Maps.{unpaged, unpagedAt}
 use Rattle.rules.specs.Steps.{wellShaped, listed}
-use Rattle.rules.specs.Sequences.{timedOut}
+use Rattle.rules.specs.Sequences.{flagged, faultData, violated, timedOut}
 use Rattle.rules.specs.Order.{outcome, operatingEffect, associativeEffect, memoryEffect, storedIn, storedAt}
 use Rattle.rules.specs.Calls.{mapsAfter, cellsAfter, memoryAfter, settled, callOf}
 use Rattle.rules.specs.Answers.{shownAs, faultShown, shown}
 use Rattle.rules.proofs.Laws.Choices.{picked}
-use Rattle.rules.proofs.Promises.{NumbersOfSteps, job, Numbered, MemoryUntouched, LengthKept, RefusedUnchanged, UnpagedTimeOut, UnpagedRefusal, Violation, PagedRefusal}
-use Rattle.rules.proofs.Statements.Ways.{ending, unchanged, timeOut, faultEnding, Transfer, read, store, AtFault}
+use Rattle.rules.proofs.Promises.{NumbersOfSteps, job, noTarget, Numbered, MemoryUntouched, LengthKept, RefusedUnchanged, UnpagedTimeOut, UnpagedRefusal, Violation, PagedRefusal, AsForNine}
+use Rattle.rules.proofs.Statements.Ways.{ending, unchanged, timeOut, faultEnding, Transfer, read, store, Unpaged, AtFault}
 use Rattle.rules.proofs.Statements.Ways.{Way, misshapen, late, status-stored, program-counter-stored, first-read, second-read, unpaged-odd, unpaged-nowhere, unpaged-window, unpaged-fetch, unpaged-transfer, violation, fetch, transfer, inner-transfer}
 use Rattle.rules.proofs.Statements.Ways.{Why, access, interrupt-late, interrupt-taken, unlisted, trap-late, trap-taken, init, Stored, nothing, word, byte, StoredOnly}
 use Rattle.rules.proofs.Demand1.Why.{why}
 use Rattle.rules.proofs.Demand1.InOrder.{granted-paged, inner-granted-paged, fault-paged, inside-so, tag-so, cells-so}
 use Rattle.rules.proofs.Demand1.Kept.{step4-leaves, timed-out-count, timed-out-registers, violated-keeps, forgotten-keeps}
 
-data Ended (m : Memory) (u : Unit) : Call → Ran → Type 0 where
+pub data Ended (m : Memory) (u : Unit) : Call → Ran → Type 0 where
   as-it-was : {c : Call} {a : Answer} → shown a .number < 4 → Ended m u c (unchanged u a)
   accepted :
       {c : Call} {a : Answer} {core : Core} {e : Effect} {k : Cells} → shown a .number ≡ 0 → Stored m c a (memoryAfter e m)
       → Ended m u c (ending a core e k)
   timed-out :
-      {q : Access} → unpaged (u .core .ktcs .fcn) (q .state) ≡ true → Ended m u (Call.Access q) (timeOut u q)
+      {q : Access} → Unpaged m u q → noTarget true (placeOf (u .cells .size) (length m) (unpagedAt (q .addr))) ≡ true
+      → Ended m u (Call.Access q) (timeOut u q)
   violated-at :
       {q : Access} {f : Fault} {window : Bool} {tag : ℕ} {k : Cells} → unpaged (u .core .ktcs .fcn) (q .state) ≡ false
       → AtFault m u q f window tag k
@@ -84,8 +85,8 @@ module _ {m : Memory} {u : Unit} where
   access-ended (first-read s e) = accepted refl nothing
   access-ended (second-read s e) = accepted refl nothing
   access-ended (unpaged-odd s t e) = as-it-was (lit< tt)
-  access-ended (unpaged-nowhere s e) = timed-out (s .mode)
-  access-ended (unpaged-window s e) = timed-out (s .mode)
+  access-ended (unpaged-nowhere s e) = timed-out s (rw e)
+  access-ended (unpaged-window s e) = timed-out s (rw e)
   access-ended (unpaged-fetch s t r) = accepted refl nothing
   access-ended (unpaged-transfer s e t) = transfer-ended (s .steps .steps .shaped) t
   access-ended (violation r) = violated-at (fault-paged r .mode) r
@@ -93,7 +94,7 @@ module _ {m : Memory} {u : Unit} where
   access-ended (transfer s e t) = transfer-ended (granted-paged (s .steps) .steps .shaped) t
   access-ended (inner-transfer s t) = transfer-ended (inner-granted-paged (s .steps) .steps .shaped) t
 
-  ended : {c : Call} {d : Ran} → Why m u c d → Ended m u c d
+  pub ended : {c : Call} {d : Ran} → Why m u c d → Ended m u c d
   unfolding memoryAfter shown shownAs
   ended (access w) = access-ended w
   ended (interrupt-late e) = as-it-was (lit< tt)
@@ -105,7 +106,7 @@ module _ {m : Memory} {u : Unit} where
 
 -- What follows ------------------------------------------------------------------------------------------------------------
 
-fault-number : (f : Fault) → (3 < faultShown f .number) × (faultShown f .number < 10)
+fault-number : (f : Fault) → (3 < faultShown f .number) × (faultShown f .number < 11)
 unfolding faultShown shownAs
 fault-number Fault.OddAddress = (lit< tt, lit< tt)
 fault-number Fault.NoMapWord = (lit< tt, lit< tt)
@@ -115,7 +116,7 @@ fault-number Fault.NotPublic = (lit< tt, lit< tt)
 fault-number Fault.NoTarget = (lit< tt, lit< tt)
 fault-number (Fault.Forbidden w at) = (lit< tt, lit< tt)
 
-answer-number : (a : Answer) → shown a .number < 10
+answer-number : (a : Answer) → shown a .number < 11
 unfolding shown shownAs
 answer-number (Answer.Done w at) = lit< tt
 answer-number (Answer.Taken w) = lit< tt
@@ -142,7 +143,7 @@ module _ {m : Memory} {u : Unit} where
   unfolding memoryAfter
   ended-stored (as-it-was h) = nothing
   ended-stored (accepted e s) = s
-  ended-stored (timed-out e) = nothing
+  ended-stored (timed-out s n) = nothing
   ended-stored (violated-at e s) = nothing
 
   ended-unchanged :
@@ -151,7 +152,7 @@ module _ {m : Memory} {u : Unit} where
   unfolding settled mapsAfter cellsAfter shown faultShown shownAs
   ended-unchanged (as-it-was h) n l = refl
   ended-unchanged (accepted e s) n l = absurd (n e)
-  ended-unchanged (timed-out e) n l = absurd (omega arith)
+  ended-unchanged (timed-out s e) n l = absurd (omega arith)
   ended-unchanged (violated-at {f} e s) n l = absurd (omega (arith, fault-number f .0))
 
   ended-unpaged :
@@ -160,7 +161,7 @@ module _ {m : Memory} {u : Unit} where
   unfolding settled mapsAfter cellsAfter shown faultShown shownAs timedOut withKept
   ended-unpaged (as-it-was h) t l = absurd (omega arith)
   ended-unpaged (accepted e s) t l = absurd (omega arith)
-  ended-unpaged {q} (timed-out e) t l =
+  ended-unpaged {q} (timed-out s n) t l =
       record {
         number = refl;
         core = refl;
@@ -168,7 +169,7 @@ module _ {m : Memory} {u : Unit} where
         cells = refl;
         ktcs = refl;
         count = timed-out-count (u .core) q;
-        registers = timed-out-registers (u .core) q e;
+        registers = timed-out-registers (u .core) q t;
         wait = step4-leaves (u .core) q .wait;
         fetch = refl;
       }
@@ -180,7 +181,7 @@ module _ {m : Memory} {u : Unit} where
   unfolding settled mapsAfter cellsAfter
   ended-paged (as-it-was h) t l = absurd (omega arith)
   ended-paged (accepted e s) t l = absurd (omega arith)
-  ended-paged (timed-out e) t l = absurd (true≢false (cc))
+  ended-paged (timed-out s n) t l = absurd (true≢false (let e = s .mode in cc))
   ended-paged {q} (violated-at {f} {window} {tag} {k} e s) t l =
       record {
         fault = f;
@@ -232,3 +233,7 @@ unpaged-refusal m u q = ended-unpaged (ended (why m u (Call.Access q)))
 pub paged-refusal : PagedRefusal
 unfolding callOf settled
 paged-refusal m u q = ended-paged (ended (why m u (Call.Access q)))
+
+pub as-for-nine : AsForNine
+unfolding violated flagged faultData
+as-for-nine c q window = refl

@@ -5,14 +5,15 @@ use mathlib.Core.Path.{_≡_, refl, sym, _∙_}
 use mathlib.Core.List.{List, [], _∷_, _++_}
 use native.Mathlib.Omega.{arith}
 use lib.ListN.{length}
+use borrow.Author.Tests.{not-true}
 use Rattle.rules.specs.Types.{Cells, Unit, Access, Call, Register, Target, Entry, Fault, Ruling, Answer, Job, Ran}
 use Rattle.rules.specs.Choice.{pick}
 use Rattle.rules.specs.Memory.{Memory}
 use Rattle.rules.specs.Registers.{placeOf}
 use Rattle.rules.specs.Maps.{unpaged}
 use Rattle.rules.specs.Fetched.{isFetch}
-use Rattle.rules.specs.Steps.{watches, forbidden}
-use Rattle.rules.specs.Order.{outcome, wordRead, storedIn, storedAt}
+use Rattle.rules.specs.Steps.{oddWord, watches, forbidden}
+use Rattle.rules.specs.Order.{outcome, wordRead, windowAddr, storedIn, storedAt}
 use Rattle.rules.specs.Calls.{settled, callOf}
 use Rattle.rules.specs.Answers.{shownAs, shown}
 use Rattle.rules.proofs.Laws.Choices.{both-true, picked}
@@ -33,6 +34,11 @@ first-append (t ∷ xs) ys a = rw (first-append xs ys a)
 pass-append : (xs ys : List Test) → allPass xs ≡ true → allPass (xs ++ ys) ≡ allPass ys
 pass-append [] ys e = refl
 pass-append (t ∷ xs) ys e = let (p, r) = both-true (not (t .refuses)) (allPass xs) e in rw (p, pass-append xs ys r)
+
+pub pass-first : (ts : List Test) (a : Answer) → allPass ts ≡ true → firstOf ts a ≡ a
+unfolding pick
+pass-first [] a e = refl
+pass-first (t ∷ ts) a e = let (p, r) = both-true (not (t .refuses)) (allPass ts) e in rw (not-true (t .refuses) p) (pass-first ts a r)
 
 -- where one gives a fault, not all pass
 fault-refuses : (ts : List Test) (f : Fault) → firstOf ts (Answer.Taken 0) ≡ Answer.Fault f → allPass ts ≡ false
@@ -56,12 +62,12 @@ keys-first (not-writable r l) a = rw (r, l)
 keys-first (not-public r l h) a = rw (r, l, h)
 keys-first (granted r l h) a = rw (r, l, h)
 
-keys-pass :
+pub keys-pass :
     {op : ℕ} {watched : Bool} {e : Entry} {page : ℕ} → Keys op watched e (Ruling.Granted page) → allPass (entryTests op watched e) ≡ true
 keys-pass exec-zero = refl
 keys-pass (granted r l h) = rw (r, l, h)
 
-keys-page : {op : ℕ} {watched : Bool} {e : Entry} {page : ℕ} → Keys op watched e (Ruling.Granted page) → pageNamed e ≡ page
+pub keys-page : {op : ℕ} {watched : Bool} {e : Entry} {page : ℕ} → Keys op watched e (Ruling.Granted page) → pageNamed e ≡ page
 keys-page exec-zero = refl
 keys-page (granted r l h) = refl
 
@@ -96,8 +102,18 @@ module _ {m : Memory} {u : Unit} {q : Access} where
   fault-windowed (inner-nowhere s e) = s .steps .steps
   fault-windowed (window-on-window s e) = s .steps .steps
 
+-- a window's inner access at an even address: its entry's tests, and its target's
+module _ (m : Memory) (u : Unit) (q : Access) where
+  pub inner-asked-first :
+      oddWord (q .width) (windowAddr (job u q)) ≡ false → (a : Answer)
+      → firstOf (innerTests m u q) a
+      ≡ firstOf (entryTests (q .op) false (inner m u q .entry))
+      (firstOf (test (noTarget true (placeOf (u .cells .size) (length m) (innerPhysical m u q))) (Answer.Fault Fault.NoTarget) ∷ []) a)
+  unfolding pick
+  inner-asked-first e a = rw e (first-append (entryTests (q .op) false (inner m u q .entry)) _ a)
+
 module _ {m : Memory} {u : Unit} {q : Access} where
-  asked-first :
+  pub asked-first :
       Asked m u q → (a : Answer)
       → firstOf (outerTests m u q) a
       ≡ firstOf (entryTests (q .op) (watches (job u q .core .fetch) q) (outer m u q .entry)) (firstOf (targetTests m u q) a)
@@ -107,7 +123,7 @@ module _ {m : Memory} {u : Unit} {q : Access} where
   granted-first : {page : ℕ} → Granted m u q page → (a : Answer) → firstOf (outerTests m u q) a ≡ firstOf (targetTests m u q) a
   granted-first s a = asked-first (s .steps) a ∙ keys-first (s .keys) (firstOf (targetTests m u q) a)
 
-  outer-place : {page : ℕ} → Granted m u q page → outerPlace m u q ≡ placeOf (u .cells .size) (length m) (outerAt q page)
+  pub outer-place : {page : ℕ} → Granted m u q page → outerPlace m u q ≡ placeOf (u .cells .size) (length m) (outerAt q page)
   outer-place s = rw (keys-page (s .keys))
 
   outer-fault : {f : Fault} {tag : ℕ} {k : Cells} → AtFault m u q f false tag k → (a : Answer) → firstOf (outerTests m u q) a ≡ Answer.Fault f
@@ -123,30 +139,22 @@ module _ {m : Memory} {u : Unit} {q : Access} where
   unfolding pick
   windowed-first s a = granted-first (s .steps) a ∙ rw (outer-place (s .steps), s .place, s .no-fetch)
 
-  windowed-pass : Windowed m u q → allPass (outerTests m u q) ≡ true
+  pub windowed-pass : Windowed m u q → allPass (outerTests m u q) ≡ true
   unfolding pick
   windowed-pass s =
       rw (s .steps .steps .even)
       (pass-append (entryTests (q .op) (watches (job u q .core .fetch) q) (outer m u q .entry)) (targetTests m u q) (keys-pass (s .steps .keys))
       ∙ rw (outer-place (s .steps), s .place, s .no-fetch))
 
-  inner-asked-first :
-      InnerAsked m u q → (a : Answer)
-      → firstOf (innerTests m u q) a
-      ≡ firstOf (entryTests (q .op) false (inner m u q .entry))
-      (firstOf (test (noTarget true (placeOf (u .cells .size) (length m) (innerPhysical m u q))) (Answer.Fault Fault.NoTarget) ∷ []) a)
-  unfolding pick
-  inner-asked-first s a = rw (s .even) (first-append (entryTests (q .op) false (inner m u q .entry)) _ a)
-
   inner-granted-first :
       {page : ℕ} → InnerGranted m u q page → (a : Answer)
       → firstOf (innerTests m u q) a ≡ pick (noTarget true (placeOf (u .cells .size) (length m) (innerAt u q page))) (Answer.Fault Fault.NoTarget) a
-  inner-granted-first s a = inner-asked-first (s .steps) a ∙ keys-first (s .keys) _ ∙ rw (keys-page (s .keys))
+  inner-granted-first s a = inner-asked-first m u q (s .steps .even) a ∙ keys-first (s .keys) _ ∙ rw (keys-page (s .keys))
 
   inner-fault : {f : Fault} {tag : ℕ} {k : Cells} → AtFault m u q f true tag k → (a : Answer) → firstOf (innerTests m u q) a ≡ Answer.Fault f
   unfolding pick
   inner-fault (inner-odd s e) a = rw e
-  inner-fault (inner-keys-refuse s h) a = inner-asked-first s a ∙ keys-first h _
+  inner-fault (inner-keys-refuse s h) a = inner-asked-first m u q (s .even) a ∙ keys-first h _
   inner-fault (inner-nowhere s e) a = inner-granted-first s a ∙ rw e
   inner-fault (window-on-window s e) a = inner-granted-first s a ∙ rw e
 
@@ -182,14 +190,14 @@ module _ {m : Memory} {u : Unit} {q : Access} where
 
   -- The whole access -----------------------------------------------------------------------------------------------------
 
-  begun-first :
+  pub begun-first :
       Begun m u q → (a : Answer)
       → firstOf (testsOf m u (Call.Access q)) a
       ≡ firstOf (pick (unpaged (u .core .ktcs .fcn) (q .state)) (unpagedTests m u q) (pagedTests m u q)) a
   unfolding pick
   begun-first s a = rw (s .shaped, s .due)
 
-  paged-first :
+  pub paged-first :
       Paged m u q → (a : Answer)
       → firstOf (testsOf m u (Call.Access q)) a
       ≡ firstOf (outerTests m u q) (firstOf (pick (isWindow (outerPlace m u q)) (innerTests m u q) []) a)

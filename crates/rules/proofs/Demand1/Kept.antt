@@ -204,7 +204,7 @@ step4-leaves c q =
 
 module _ (user : Bool) (p : ℕ) (k : Cells) where
   cells-same : (e : Entry) → Step6Keeps user p k (record { entry = e; cells = k })
-  cells-same e = record { size = refl; count = refl; others = λ i n. refl; hit = λ h. refl; timed-out = λ h. refl; exec-zero = λ h. refl }
+  cells-same e = record { size = refl; count = refl; others = λ i n. refl; hit = λ h. refl; ran-off = λ h. refl; exec-zero = λ h. refl }
 
   module _ (walks : execZero user p ≡ false) (missing : cellOf k (tagOf user p) ≡ Found.Missing) where
     filled-keeps : (tag w : ℕ) → Step6Keeps user p k (record { entry = Entry.Mapped w; cells = filled k tag w })
@@ -215,7 +215,7 @@ module _ (user : Bool) (p : ℕ) (k : Cells) where
           count = rw (there-filled k tag w, length-set);
           others = λ i n. rw (there-filled k tag w, getD-set-other);
           hit = λ h. cc;
-          timed-out = λ h. cc;
+          ran-off = λ h. cc;
           exec-zero = λ h. absurd (true≢false (cc));
         }
 

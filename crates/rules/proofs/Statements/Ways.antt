@@ -70,7 +70,7 @@ taken u w c = ending (Answer.Taken w) c Effect.Keep (u .cells)
 abbrev pub timeOut : Unit → Access → Ran
 timeOut u q = ending (Answer.Fault Fault.NoTarget) (timedOut (noted (u .core) q) q) Effect.Keep (u .cells)
 
--- answers 4 to 8 and a paged 9: whether in a window's inner access, the tag of the page at fault, and the cells as step 6 left them
+-- answers 4 to 8, 10 and a paged 9: whether in a window's inner access, the tag of the page at fault, and the cells as step 6 left them
 abbrev pub faultEnding : Unit → Access → Fault → Bool → ℕ → Cells → Ran
 faultEnding u q f window tag k = ending (Answer.Fault f) (violated (noted (u .core) q) q window f) (Effect.Forget tag) k
 
@@ -149,7 +149,7 @@ module _ (m : Memory) (u : Unit) (q : Access) where
   pub data AtFault : Fault → Bool → ℕ → Cells → Type 0 where
     -- "5. Paged odd word (4)."
     odd : Paged → oddWord (q .width) (q .addr) ≡ true → AtFault Fault.OddAddress false (outerTag u q) (u .cells)
-    -- "6. Walk (9). 7. Residency (5). 8. Write key for operations 1-3 (6). 9. Privacy (7)."
+    -- "6. Walk (9).", where "10 takes 9's place" (T-01), "7. Residency (5). 8. Write key for operations 1-3 (6). 9. Privacy (7)."
     keys-refuse :
         {f : Fault} → Asked → Keys (q .op) (watches (job u q .core .fetch) q) (outer m u q .entry) (Ruling.Refused f)
         → AtFault f false (outerTag u q) (outer m u q .cells)
@@ -211,7 +211,7 @@ module _ (m : Memory) (u : Unit) (q : Access) where
         → Way (fetchDone (job u q) (unpagedAt (q .addr)) (job u q .core .fetch .public) w (u .cells))
     unpaged-transfer :
         {t : Target} {d : Ran} → UnpagedThere t → isFetch q ≡ false → Transfer m (job u q) (u .cells) (unpagedAt (q .addr)) t d → Way d
-    -- steps 5 to 11: answers 4 to 8 and a paged 9
+    -- steps 5 to 11: answers 4 to 8, 10 and a paged 9
     violation :
         {f : Fault} {window : Bool} {tag : ℕ} {k : Cells} → AtFault f window tag k
         → Way (faultEnding u q f window tag k)
@@ -306,7 +306,7 @@ pub data Does (m : Memory) (u : Unit) : Call → Answer → Effect → Type 0 wh
   -- an unpaged 9: nothing
   after-unpaged-time-out :
       {q : Access} → unpaged (u .core .ktcs .fcn) (q .state) ≡ true → Does m u (Call.Access q) (Answer.Fault Fault.NoTarget) Effect.Keep
-  -- answers 4 to 8 and a paged 9: the page at fault, and no other, is forgotten
+  -- answers 4 to 8, 10 and a paged 9: the page at fault, and no other, is forgotten
   after-fault :
       {q : Access} {f : Fault} {window : Bool} {tag : ℕ} {k : Cells} → AtFault m u q f window tag k
       → Does m u (Call.Access q) (Answer.Fault f) (Effect.Forget tag)
@@ -322,6 +322,6 @@ pub data Does (m : Memory) (u : Unit) : Call → Answer → Effect → Type 0 wh
       {q : Access} {at : ℕ} {t : Target} {e : Effect} → 1 < q .op → placeOf (u .cells .size) (length m) at ≡ Place.There t → Stores u q at t e
       → Does m u (Call.Access q) (Answer.Done 0 at) e
 
--- "Forget" for answers 4 to 8 and a paged 9 alone, "Reload" for INIT and a KTUM or KTEM store alone, stores for answer 0 alone
+-- "Forget" for answers 4 to 8, 10 and a paged 9 alone, "Reload" for INIT and a KTUM or KTEM store alone, stores for answer 0 alone
 abbrev pub EffectsByAnswer : Type 0
 EffectsByAnswer = (m : Memory) (u : Unit) (c : Call) → Does m u c (decided m u c .outcome .answer) (decided m u c .outcome .effect)

@@ -1,0 +1,228 @@
+-- The two reasons: a call is answered 10 exactly where a walk ran off memory, and 9 exactly where its target is not there.
+use Prim.Native.Nat.{ℕ}
+use mathlib.Core.Bool.{Bool, true, false}
+use mathlib.Core.Path.{_≡_, refl, sym, _∙_}
+use mathlib.Core.Logic.{_≢_}
+use mathlib.Core.List.{[], _∷_}
+use native.Mathlib.Omega.{arith}
+use lib.ListN.{length, getD}
+use Rattle.rules.specs.Types.{Maps, Cells, Unit, Access, Call, Found, Place, Walk, Entry, Looked, Fault, Ruling, Answer, Ran}
+use Rattle.rules.specs.Choice.{pick}
+use Rattle.rules.specs.Memory.{Memory}
+use Rattle.rules.specs.Registers.{ktic, ktad, placeOf}
+use Rattle.rules.specs.Maps.{pageOf, execZero, execZeroEntry, walkOf, entryOf, tagOf, cellOf, missed, soughtIn, looked}
+use Rattle.rules.specs.Steps.{watches}
+use Rattle.rules.specs.Order.{windowAddr}
+use Rattle.rules.specs.Calls.{settled, callOf}
+use Rattle.rules.specs.Answers.{shownAs, faultShown, shown}
+use Rattle.rules.proofs.Laws.Choices.{picked}
+use Rattle.rules.proofs.Laws.CellsLaws.{found-has-tag, missing-has-none}
+use Rattle.rules.proofs.Laws.Pages.{tag-other}
+use Rattle.rules.proofs.Promises.{job, outer, inner, test, firstOf, entryTests, noTarget, innerPhysical, outerTests, testsOf, numberOf, GoesOn, RanOff, OuterRanOff, GoesInside, InnerRanOff, WalkRanOff, outer-walk, inner-walk, UnpagedNowhere, OuterNowhere, InnerNowhere, TargetNowhere, unpaged-target, outer-target, inner-target, TwoReasons}
+use Rattle.rules.proofs.Statements.Ways.{Keys, off-map, not-resident, not-writable, not-public, Begun, Paged, InnerAsked, AtFault, keys-refuse, nowhere, window-by-fetch, inner-keys-refuse, inner-nowhere, window-on-window}
+use Rattle.rules.proofs.Demand1.Why.{why}
+use Rattle.rules.proofs.Demand1.InOrder.{pass-first, keys-pass, keys-page, asked-first, inner-asked-first, outer-place, windowed-pass, begun-first, paged-first, answered-in-order}
+use Rattle.rules.proofs.Demand1.Kept.{step4-leaves}
+use Rattle.rules.proofs.Demand1.Ended.{Ended, as-it-was, accepted, timed-out, violated-at, ended}
+
+-- The look-up ------------------------------------------------------------------------------------------------------------
+
+-- the entry is off the map exactly where the page is not exec page 0, no cell holds it and its walk ran off memory
+module _ (m : Memory) (r : Maps) (user : Bool) (p : ℕ) (k : Cells) where
+  off-map-so : looked m r user p k .entry ≡ Entry.OffMap → (execZero user p ≡ false) × RanOff m r k user p
+  unfolding looked execZeroEntry soughtIn missed entryOf
+  off-map-so =
+      picked (λ (l : Looked). l .entry ≡ Entry.OffMap → (execZero user p ≡ false) × RanOff m r k user p) (execZero user p) _ _
+      (λ z e. absurd (let n : _≡_ {A = ℕ} 0 1 = cc in omega arith)) (λ z e. (z, sought z (cellOf k (tagOf user p)) refl e))
+    where
+      by-walk : execZero user p ≡ false → cellOf k (tagOf user p) ≡ Found.Missing → (w : Walk) → walkOf m r user p ≡ w
+          → entryOf w ≡ Entry.OffMap → RanOff m r k user p
+      by-walk z f (Walk.Finished w rs) h e = absurd (let n : _≡_ {A = ℕ} 0 1 = cc in omega arith)
+      by-walk z f Walk.Off h e = record { no-cell = missing-has-none k (tagOf user p) f (tag-other user p z); walk = h }
+
+      sought : execZero user p ≡ false → (x : Found) → cellOf k (tagOf user p) ≡ x → soughtIn m r user p k x .entry ≡ Entry.OffMap
+          → RanOff m r k user p
+      sought z (Found.At i) f e = absurd (let n : _≡_ {A = ℕ} 0 1 = cc in omega arith)
+      sought z Found.Missing f e = by-walk z f (walkOf m r user p) refl e
+
+  so-off-map : execZero user p ≡ false → RanOff m r k user p → looked m r user p k .entry ≡ Entry.OffMap
+  unfolding looked soughtIn missed entryOf pick
+  so-off-map z o = rw z (sought (cellOf k (tagOf user p)) refl)
+    where
+      sought : (x : Found) → cellOf k (tagOf user p) ≡ x → soughtIn m r user p k x .entry ≡ Entry.OffMap
+      sought (Found.At i) f = absurd (o .no-cell i (found-has-tag k i (tagOf user p) f))
+      sought Found.Missing f = rw (o .walk)
+
+-- What step 4 leaves: the mode and KTAD ----------------------------------------------------------------------------------
+
+module _ (u : Unit) (q : Access) where
+  mode-stays : job u q .core .ktcs .um ≡ u .core .ktcs .um
+  mode-stays = step4-leaves (u .core) q .ktcs .only .um
+
+  window-address : windowAddr (job u q) ≡ getD (u .core .kept) ktad 0
+  unfolding windowAddr
+  window-address = step4-leaves (u .core) q .registers .others ktad (λ e. omega arith)
+
+-- From the number to the reason ------------------------------------------------------------------------------------------
+
+keys-off : {op : ℕ} {watched : Bool} {e : Entry} → Keys op watched e (Ruling.Refused Fault.NoMapWord) → e ≡ Entry.OffMap
+keys-off off-map = refl
+
+keys-there : {op : ℕ} {watched : Bool} {e : Entry} {f : Fault} → Keys op watched e (Ruling.Refused f) → faultShown f .number ≢ 9
+unfolding faultShown shownAs
+keys-there off-map n = omega arith
+keys-there (not-resident r) n = omega arith
+keys-there (not-writable r l) n = omega arith
+keys-there (not-public r l h) n = omega arith
+
+module _ {m : Memory} {u : Unit} {q : Access} where
+  goes-on : Paged m u q → GoesOn m u q false
+  goes-on s = record { shaped = s .steps .shaped; due = s .steps .due; mode = s .mode }
+
+  goes-inside : InnerAsked m u q → GoesInside m u q
+  goes-inside s =
+      record {
+        passes = windowed-pass (s .steps);
+        window = outer-place (s .steps .steps) ∙ s .steps .place;
+        no-fetch = s .steps .no-fetch;
+        even = rw (sym (window-address u q)) (s .even);
+      }
+
+  off-fault : {window : Bool} {tag : ℕ} {k : Cells} → AtFault m u q Fault.NoMapWord window tag k → WalkRanOff m u (Call.Access q)
+  off-fault (keys-refuse s h) =
+      let (z, o) = off-map-so m (u .maps) (job u q .core .ktcs .um) (pageOf (q .addr)) (u .cells) (keys-off h) in
+      outer-walk (goes-on (s .steps))
+      (record { even = s .even; not-exec-zero = rw (sym (mode-stays u q)) z; ran-off = rw (sym (mode-stays u q)) o })
+  off-fault (inner-keys-refuse s h) =
+      let (_, o) = off-map-so m (u .maps) true (pageOf (windowAddr (job u q))) (outer m u q .cells) (keys-off h) in
+      inner-walk (goes-on (s .steps .steps .steps .steps)) (record { inside = goes-inside s; ran-off = rw (sym (window-address u q)) o })
+
+  target-fault : {window : Bool} {tag : ℕ} {k : Cells} → AtFault m u q Fault.NoTarget window tag k → TargetNowhere m u (Call.Access q)
+  unfolding faultShown shownAs
+  target-fault (keys-refuse s h) = absurd (keys-there h refl)
+  target-fault (nowhere s e) =
+      outer-target (goes-on (s .steps .steps))
+      (record { even = s .steps .even; passes = keys-pass (s .keys); nowhere = rw (outer-place s, e) })
+  target-fault (window-by-fetch s e t) =
+      outer-target (goes-on (s .steps .steps))
+      (record { even = s .steps .even; passes = keys-pass (s .keys); nowhere = rw (outer-place s, e, t) })
+  target-fault (inner-keys-refuse s h) = absurd (keys-there h refl)
+  target-fault (inner-nowhere s e) =
+      inner-target (goes-on (s .steps .steps .steps .steps .steps))
+      (record { inside = goes-inside (s .steps); passes = keys-pass (s .keys); nowhere = rw (keys-page (s .keys), e) })
+  target-fault (window-on-window s e) =
+      inner-target (goes-on (s .steps .steps .steps .steps .steps))
+      (record { inside = goes-inside (s .steps); passes = keys-pass (s .keys); nowhere = rw (keys-page (s .keys), e) })
+
+-- the faults by their numbers
+fault-ten : (f : Fault) → faultShown f .number ≡ 10 → f ≡ Fault.NoMapWord
+unfolding faultShown shownAs
+fault-ten Fault.NoMapWord n = refl
+fault-ten Fault.OddAddress n = absurd (omega arith)
+fault-ten Fault.NotResident n = absurd (omega arith)
+fault-ten Fault.NotWritable n = absurd (omega arith)
+fault-ten Fault.NotPublic n = absurd (omega arith)
+fault-ten Fault.NoTarget n = absurd (omega arith)
+fault-ten (Fault.Forbidden w at) n = absurd (omega arith)
+
+fault-nine : (f : Fault) → faultShown f .number ≡ 9 → f ≡ Fault.NoTarget
+unfolding faultShown shownAs
+fault-nine Fault.NoTarget n = refl
+fault-nine Fault.OddAddress n = absurd (omega arith)
+fault-nine Fault.NoMapWord n = absurd (omega arith)
+fault-nine Fault.NotResident n = absurd (omega arith)
+fault-nine Fault.NotWritable n = absurd (omega arith)
+fault-nine Fault.NotPublic n = absurd (omega arith)
+fault-nine (Fault.Forbidden w at) n = absurd (omega arith)
+
+module _ {m : Memory} {u : Unit} where
+  ended-ten : {c : Call} {d : Ran} → Ended m u c d → shown (d .outcome .answer) .number ≡ 10 → WalkRanOff m u c
+  unfolding shown faultShown shownAs
+  ended-ten (as-it-was h) n = absurd (omega arith)
+  ended-ten (accepted z s) n = absurd (omega arith)
+  ended-ten (timed-out s e) n = absurd (omega arith)
+  ended-ten (violated-at {f} e s) n = off-fault (rw (fault-ten f n) at s)
+
+  ended-nine : {c : Call} {d : Ran} → Ended m u c d → shown (d .outcome .answer) .number ≡ 9 → TargetNowhere m u c
+  unfolding shown
+  ended-nine (as-it-was h) n = absurd (omega arith)
+  ended-nine (accepted z s) n = absurd (omega arith)
+  ended-nine (timed-out s e) n =
+      unpaged-target (record { shaped = s .steps .shaped; due = s .steps .due; mode = s .mode }) (record { even = s .even; nowhere = e })
+  ended-nine (violated-at {f} e s) n = target-fault (rw (fault-nine f n) at s)
+
+-- From the reason to the number ------------------------------------------------------------------------------------------
+
+-- a fault that the tests come to, whatever is answered where all pass, gives the number
+by-tests :
+    (m : Memory) (u : Unit) (c : Call) (f : Fault) → ((a : Answer) → firstOf (testsOf m u c) a ≡ Answer.Fault f)
+    → numberOf (callOf m u c) ≡ faultShown f .number
+unfolding shown
+by-tests m u c f h = let s = answered-in-order m u c in rw (s .first ∙ h (s .passed))
+
+module _ {m : Memory} {u : Unit} where
+  module _ {q : Access} where
+    began : {b : Bool} → GoesOn m u q b → Begun m u q
+    began g = record { shaped = g .shaped; due = g .due }
+
+    on-paged : GoesOn m u q false → Paged m u q
+    on-paged g = record { steps = began g; mode = g .mode }
+
+    outer-off-first : GoesOn m u q false → OuterRanOff m u q → (a : Answer) → firstOf (testsOf m u (Call.Access q)) a ≡ Answer.Fault Fault.NoMapWord
+    unfolding pick
+    outer-off-first g o a =
+        paged-first (on-paged g) a
+        ∙ asked-first (record { steps = on-paged g; even = o .even }) _
+        ∙ rw (so-off-map m (u .maps) (job u q .core .ktcs .um) (pageOf (q .addr)) (u .cells) (rw (mode-stays u q) (o .not-exec-zero)) (rw (mode-stays u q) (o .ran-off)))
+
+    inner-first : GoesOn m u q false → GoesInside m u q → (a : Answer)
+        → firstOf (testsOf m u (Call.Access q)) a
+        ≡ firstOf (entryTests (q .op) false (inner m u q .entry))
+        (firstOf (test (noTarget true (placeOf (u .cells .size) (length m) (innerPhysical m u q))) (Answer.Fault Fault.NoTarget) ∷ []) a)
+    unfolding pick
+    inner-first g i a =
+        paged-first (on-paged g) a
+        ∙ pass-first (outerTests m u q) _ (i .passes)
+        ∙ rw (i .window) (inner-asked-first m u q (rw (window-address u q) (i .even)) a)
+
+    inner-off-first : GoesOn m u q false → InnerRanOff m u q → (a : Answer) → firstOf (testsOf m u (Call.Access q)) a ≡ Answer.Fault Fault.NoMapWord
+    unfolding pick execZero
+    inner-off-first g o a =
+        inner-first g (o .inside) a
+        ∙ rw (so-off-map m (u .maps) true (pageOf (windowAddr (job u q))) (outer m u q .cells) refl (rw (window-address u q) (o .ran-off)))
+
+    unpaged-nowhere-first : GoesOn m u q true → UnpagedNowhere m u q → (a : Answer) → firstOf (testsOf m u (Call.Access q)) a ≡ Answer.Fault Fault.NoTarget
+    unfolding pick
+    unpaged-nowhere-first g n a = begun-first (began g) a ∙ rw (g .mode, n .even, n .nowhere)
+
+    outer-nowhere-first : GoesOn m u q false → OuterNowhere m u q → (a : Answer) → firstOf (testsOf m u (Call.Access q)) a ≡ Answer.Fault Fault.NoTarget
+    unfolding pick
+    outer-nowhere-first g n a =
+        paged-first (on-paged g) a
+        ∙ asked-first (record { steps = on-paged g; even = n .even }) _
+        ∙ pass-first (entryTests (q .op) (watches (job u q .core .fetch) q) (outer m u q .entry)) _ (n .passes)
+        ∙ rw (n .nowhere)
+
+    inner-nowhere-first : GoesOn m u q false → InnerNowhere m u q → (a : Answer) → firstOf (testsOf m u (Call.Access q)) a ≡ Answer.Fault Fault.NoTarget
+    unfolding pick
+    inner-nowhere-first g n a =
+        inner-first g (n .inside) a ∙ pass-first (entryTests (q .op) false (inner m u q .entry)) _ (n .passes) ∙ rw (n .nowhere)
+
+  off-ten : {c : Call} → WalkRanOff m u c → numberOf (callOf m u c) ≡ 10
+  unfolding faultShown shownAs
+  off-ten (outer-walk g o) = by-tests m u _ Fault.NoMapWord (outer-off-first g o)
+  off-ten (inner-walk g o) = by-tests m u _ Fault.NoMapWord (inner-off-first g o)
+
+  nowhere-nine : {c : Call} → TargetNowhere m u c → numberOf (callOf m u c) ≡ 9
+  unfolding faultShown shownAs
+  nowhere-nine (unpaged-target g n) = by-tests m u _ Fault.NoTarget (unpaged-nowhere-first g n)
+  nowhere-nine (outer-target g n) = by-tests m u _ Fault.NoTarget (outer-nowhere-first g n)
+  nowhere-nine (inner-target g n) = by-tests m u _ Fault.NoTarget (inner-nowhere-first g n)
+
+pub two-reasons : TwoReasons
+unfolding callOf settled
+two-reasons =
+    record {
+      walk = λ m u c. (ended-ten (ended (why m u c)), off-ten);
+      target = λ m u c. (ended-nine (ended (why m u c)), nowhere-nine);
+    }
