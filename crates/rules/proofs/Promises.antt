@@ -198,10 +198,10 @@ EighteenBits =
 -- Demand 1: the two reasons, a walk that ran off memory (10) and a target that is not there (9) ---------------------------
 
 -- steps 1 and 2 passed, and whether the access is unpaged
-pub record GoesOn (m : Memory) (u : Unit) (q : Access) (without-maps : Bool) : Type 0 where
+pub record GoesOn (m : Memory) (u : Unit) (q : Access) (isUnpaged : Bool) : Type 0 where
   pub shaped : wellShaped (length m) q ≡ true
   pub due : dueOf (u .core) q ≡ Due.Steps
-  pub mode : unpaged (u .core .ktcs .fcn) (q .state) ≡ without-maps
+  pub mode : unpaged (u .core .ktcs .fcn) (q .state) ≡ isUnpaged
 
 -- "The walk itself should report that it ran off memory" (T-01): the page is walked, since no cell of k holds it, and its walk does not finish
 pub record RanOff (m : Memory) (r : Maps) (k : Cells) (user : Bool) (p : ℕ) : Type 0 where
@@ -231,7 +231,7 @@ pub data WalkRanOff (m : Memory) (u : Unit) : Call → Type 0 where
   outer-walk : {q : Access} → GoesOn m u q false → OuterRanOff m u q → WalkRanOff m u (Call.Access q)
   inner-walk : {q : Access} → GoesOn m u q false → InnerRanOff m u q → WalkRanOff m u (Call.Access q)
 
--- "9 stays for targets" (T-01): of an unpaged access, of the access's own page, all of whose keys pass, and of a window's inner page alike
+-- "answer 9 stays for targets" (T-01): of an unpaged access, of the access's own page, all of whose keys pass, and of a window's inner page alike
 pub record UnpagedNowhere (m : Memory) (u : Unit) (q : Access) : Type 0 where
   pub even : oddWord (q .width) (q .addr) ≡ false
   pub nowhere : noTarget true (placeOf (u .cells .size) (length m) (unpagedAt (q .addr))) ≡ true
@@ -415,7 +415,7 @@ PagedRefusal =
     (m : Memory) (u : Unit) (q : Access) → unpaged (u .core .ktcs .fcn) (q .state) ≡ false → 3 < numberOf (callOf m u (Call.Access q))
     → Violation m u q (callOf m u (Call.Access q))
 
--- "State changes are as for 9" (T-01), of the core; maps and cells go by no fault, in `Violation`
+-- "State changes are as for 9" (T-01): of the core this, and of map registers and cells `Violation`, in which they don't depend on the fault
 abbrev pub AsForNine : Type 0
 AsForNine = (c : Core) (q : Access) (window : Bool) → violated c q window Fault.NoMapWord ≡ violated c q window Fault.NoTarget
 

@@ -6,11 +6,12 @@ use mathlib.Core.Logic.{_≢_}
 use mathlib.Core.List.{[], _∷_}
 use native.Mathlib.Omega.{arith}
 use lib.ListN.{length, getD}
-use Rattle.rules.specs.Types.{Maps, Cells, Unit, Access, Call, Found, Place, Walk, Entry, Looked, Fault, Ruling, Answer, Ran}
+use Rattle.rules.specs.Types.{Maps, Cells, Unit, Access, Call, Found, Walk, Entry, Looked, Fault, Ruling, Answer, Ran}
 use Rattle.rules.specs.Choice.{pick}
 use Rattle.rules.specs.Memory.{Memory}
-use Rattle.rules.specs.Registers.{ktic, ktad, placeOf}
+use Rattle.rules.specs.Registers.{ktad, placeOf}
 use Rattle.rules.specs.Maps.{pageOf, execZero, execZeroEntry, walkOf, entryOf, tagOf, cellOf, missed, soughtIn, looked}
+use Rattle.rules.specs.Fetched.{isFetch}
 use Rattle.rules.specs.Steps.{watches}
 use Rattle.rules.specs.Order.{windowAddr}
 use Rattle.rules.specs.Calls.{settled, callOf}
@@ -19,9 +20,9 @@ use Rattle.rules.proofs.Laws.Choices.{picked}
 use Rattle.rules.proofs.Laws.CellsLaws.{found-has-tag, missing-has-none}
 use Rattle.rules.proofs.Laws.Pages.{tag-other}
 use Rattle.rules.proofs.Promises.{job, outer, inner, test, firstOf, entryTests, noTarget, innerPhysical, outerTests, testsOf, numberOf, GoesOn, RanOff, OuterRanOff, GoesInside, InnerRanOff, WalkRanOff, outer-walk, inner-walk, UnpagedNowhere, OuterNowhere, InnerNowhere, TargetNowhere, unpaged-target, outer-target, inner-target, TwoReasons}
-use Rattle.rules.proofs.Statements.Ways.{Keys, off-map, not-resident, not-writable, not-public, Begun, Paged, InnerAsked, AtFault, keys-refuse, nowhere, window-by-fetch, inner-keys-refuse, inner-nowhere, window-on-window}
+use Rattle.rules.proofs.Statements.Ways.{outerAt, innerAt, Keys, off-map, not-resident, not-writable, not-public, Begun, Paged, Granted, InnerAsked, InnerGranted, AtFault, keys-refuse, nowhere, window-by-fetch, inner-keys-refuse, inner-nowhere, window-on-window}
 use Rattle.rules.proofs.Demand1.Why.{why}
-use Rattle.rules.proofs.Demand1.InOrder.{pass-first, keys-pass, keys-page, asked-first, inner-asked-first, outer-place, windowed-pass, begun-first, paged-first, answered-in-order}
+use Rattle.rules.proofs.Demand1.InOrder.{pass-first, keys-pass, keys-page, windowed-paged, inner-granted-paged, asked-first, inner-asked-first, outer-place, windowed-pass, begun-first, paged-first, answered-in-order}
 use Rattle.rules.proofs.Demand1.Kept.{step4-leaves}
 use Rattle.rules.proofs.Demand1.Ended.{Ended, as-it-was, accepted, timed-out, violated-at, ended}
 
@@ -95,45 +96,40 @@ module _ {m : Memory} {u : Unit} {q : Access} where
       (record { even = s .even; not-exec-zero = rw (sym (mode-stays u q)) z; ran-off = rw (sym (mode-stays u q)) o })
   off-fault (inner-keys-refuse s h) =
       let (_, o) = off-map-so m (u .maps) true (pageOf (windowAddr (job u q))) (outer m u q .cells) (keys-off h) in
-      inner-walk (goes-on (s .steps .steps .steps .steps)) (record { inside = goes-inside s; ran-off = rw (sym (window-address u q)) o })
+      inner-walk (goes-on (windowed-paged (s .steps))) (record { inside = goes-inside s; ran-off = rw (sym (window-address u q)) o })
+
+  outer-nowhere :
+      {page : ℕ} → Granted m u q page → noTarget (isFetch q) (placeOf (u .cells .size) (length m) (outerAt q page)) ≡ true
+      → TargetNowhere m u (Call.Access q)
+  outer-nowhere s e =
+      outer-target (goes-on (s .steps .steps)) (record { even = s .steps .even; passes = keys-pass (s .keys); nowhere = rw (outer-place s) e })
+
+  inner-target-nowhere :
+      {page : ℕ} → InnerGranted m u q page → noTarget true (placeOf (u .cells .size) (length m) (innerAt u q page)) ≡ true
+      → TargetNowhere m u (Call.Access q)
+  inner-target-nowhere s e =
+      inner-target (goes-on (inner-granted-paged s))
+      (record { inside = goes-inside (s .steps); passes = keys-pass (s .keys); nowhere = rw (keys-page (s .keys)) e })
 
   target-fault : {window : Bool} {tag : ℕ} {k : Cells} → AtFault m u q Fault.NoTarget window tag k → TargetNowhere m u (Call.Access q)
   unfolding faultShown shownAs
   target-fault (keys-refuse s h) = absurd (keys-there h refl)
-  target-fault (nowhere s e) =
-      outer-target (goes-on (s .steps .steps))
-      (record { even = s .steps .even; passes = keys-pass (s .keys); nowhere = rw (outer-place s, e) })
-  target-fault (window-by-fetch s e t) =
-      outer-target (goes-on (s .steps .steps))
-      (record { even = s .steps .even; passes = keys-pass (s .keys); nowhere = rw (outer-place s, e, t) })
+  target-fault (nowhere s e) = outer-nowhere s (rw e)
+  target-fault (window-by-fetch s e t) = outer-nowhere s (rw (e, t))
   target-fault (inner-keys-refuse s h) = absurd (keys-there h refl)
-  target-fault (inner-nowhere s e) =
-      inner-target (goes-on (s .steps .steps .steps .steps .steps))
-      (record { inside = goes-inside (s .steps); passes = keys-pass (s .keys); nowhere = rw (keys-page (s .keys), e) })
-  target-fault (window-on-window s e) =
-      inner-target (goes-on (s .steps .steps .steps .steps .steps))
-      (record { inside = goes-inside (s .steps); passes = keys-pass (s .keys); nowhere = rw (keys-page (s .keys), e) })
+  target-fault (inner-nowhere s e) = inner-target-nowhere s (rw e)
+  target-fault (window-on-window s e) = inner-target-nowhere s (rw e)
 
--- the faults by their numbers
-fault-ten : (f : Fault) → faultShown f .number ≡ 10 → f ≡ Fault.NoMapWord
+-- the two faults by their numbers
+fault-told : (f : Fault) → (faultShown f .number ≡ 10 → f ≡ Fault.NoMapWord) × (faultShown f .number ≡ 9 → f ≡ Fault.NoTarget)
 unfolding faultShown shownAs
-fault-ten Fault.NoMapWord n = refl
-fault-ten Fault.OddAddress n = absurd (omega arith)
-fault-ten Fault.NotResident n = absurd (omega arith)
-fault-ten Fault.NotWritable n = absurd (omega arith)
-fault-ten Fault.NotPublic n = absurd (omega arith)
-fault-ten Fault.NoTarget n = absurd (omega arith)
-fault-ten (Fault.Forbidden w at) n = absurd (omega arith)
-
-fault-nine : (f : Fault) → faultShown f .number ≡ 9 → f ≡ Fault.NoTarget
-unfolding faultShown shownAs
-fault-nine Fault.NoTarget n = refl
-fault-nine Fault.OddAddress n = absurd (omega arith)
-fault-nine Fault.NoMapWord n = absurd (omega arith)
-fault-nine Fault.NotResident n = absurd (omega arith)
-fault-nine Fault.NotWritable n = absurd (omega arith)
-fault-nine Fault.NotPublic n = absurd (omega arith)
-fault-nine (Fault.Forbidden w at) n = absurd (omega arith)
+fault-told Fault.OddAddress = (λ n. absurd (omega arith), λ n. absurd (omega arith))
+fault-told Fault.NoMapWord = (λ n. refl, λ n. absurd (omega arith))
+fault-told Fault.NotResident = (λ n. absurd (omega arith), λ n. absurd (omega arith))
+fault-told Fault.NotWritable = (λ n. absurd (omega arith), λ n. absurd (omega arith))
+fault-told Fault.NotPublic = (λ n. absurd (omega arith), λ n. absurd (omega arith))
+fault-told Fault.NoTarget = (λ n. absurd (omega arith), λ n. refl)
+fault-told (Fault.Forbidden w at) = (λ n. absurd (omega arith), λ n. absurd (omega arith))
 
 module _ {m : Memory} {u : Unit} where
   ended-ten : {c : Call} {d : Ran} → Ended m u c d → shown (d .outcome .answer) .number ≡ 10 → WalkRanOff m u c
@@ -141,7 +137,7 @@ module _ {m : Memory} {u : Unit} where
   ended-ten (as-it-was h) n = absurd (omega arith)
   ended-ten (accepted z s) n = absurd (omega arith)
   ended-ten (timed-out s e) n = absurd (omega arith)
-  ended-ten (violated-at {f} e s) n = off-fault (rw (fault-ten f n) at s)
+  ended-ten (violated-at {f} e s) n = off-fault (rw (fault-told f .0 n) at s)
 
   ended-nine : {c : Call} {d : Ran} → Ended m u c d → shown (d .outcome .answer) .number ≡ 9 → TargetNowhere m u c
   unfolding shown
@@ -149,7 +145,7 @@ module _ {m : Memory} {u : Unit} where
   ended-nine (accepted z s) n = absurd (omega arith)
   ended-nine (timed-out s e) n =
       unpaged-target (record { shaped = s .steps .shaped; due = s .steps .due; mode = s .mode }) (record { even = s .even; nowhere = e })
-  ended-nine (violated-at {f} e s) n = target-fault (rw (fault-nine f n) at s)
+  ended-nine (violated-at {f} e s) n = target-fault (rw (fault-told f .1 n) at s)
 
 -- From the reason to the number ------------------------------------------------------------------------------------------
 
