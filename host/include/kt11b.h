@@ -34,9 +34,11 @@ typedef char kt11b_short_has_16_bits[sizeof(unsigned short) == 2 ? 1 : -1];
 
 /*
  * The version of this interface. It rises with each change of a function, of an answer or of the unit's words. Words that were
- * saved are for the same version alone; those of another layout begin with another word and are answered KT11B_NO_UNIT.
+ * saved are for the same version alone, with one exception: version 3 brought KT11B_OFF_MAP and changed no word, so the first word
+ * is that of version 2, and units that version 2 saved are units of version 3. Words of another layout begin with another word and
+ * are answered KT11B_NO_UNIT.
  */
-#define KT11B_VERSION 2
+#define KT11B_VERSION 3
 
 /* The unit, with either number of cells: unsigned short unit[KT11B_UNIT_WORDS]; */
 #define KT11B_UNIT_WORDS 67
@@ -66,8 +68,9 @@ typedef char kt11b_short_has_16_bits[sizeof(unsigned short) == 2 ? 1 : -1];
 #define KT11B_BYTE 1UL
 
 /*
- * Answers. 4 to 8 are the violations; they, and a paged 9, put the unit into exec and leave it waiting for two SERVICE DATOs.
- * KT11B_OTHER_COUNT answers the making of a unit, and no call.
+ * Answers. 4 to 8 are the violations; they, 10 and a paged 9 put the unit into exec and leave it waiting for two SERVICE DATOs.
+ * KT11B_TIME_OUT and KT11B_OFF_MAP say what was not there: 9 the target itself, 10 a word of the maps on the way to it, so that
+ * there was no target yet. KT11B_OTHER_COUNT answers the making of a unit, and no call.
  */
 #define KT11B_DONE 0            /* done */
 #define KT11B_MISSHAPEN 1       /* a number that is none of those listed, a memory of a bad length, or an access of a bad shape */
@@ -78,7 +81,9 @@ typedef char kt11b_short_has_16_bits[sizeof(unsigned short) == 2 ? 1 : -1];
 #define KT11B_WV 6              /* write violation */
 #define KT11B_PV 7              /* privacy violation */
 #define KT11B_IV 8              /* instruction violation */
-#define KT11B_TIME_OUT 9        /* time-out: no map word, or no target, at that address */
+#define KT11B_TIME_OUT 9        /* nothing answers at the target's address */
+#define KT11B_OFF_MAP 10        /* the walk ran off memory: no map word or pointer at that address; look at KTUM, KTEM or the
+                                   pointer */
 #define KT11B_OTHER_COUNT 30    /* a unit is made with 8 or 24 cells, and with no other number */
 #define KT11B_NO_UNIT 70        /* the words don't hold a unit */
 
@@ -135,7 +140,7 @@ unsigned long kt11b_fresh(unsigned short *unit, unsigned long cells);
  * One access of the processor's: an operation, its state and width, the 16-bit address and the data of a store. The reply
  * has the word read (0 for a store) and, with KT11B_DONE and KT11B_IV of an access that is no sequence access, the physical
  * address; a read gives the whole word at the even address.
- * Answers 1, 2, 3 and KT11B_NO_UNIT leave unit and memory as they were. Answers 4 to 9 leave memory as it was and change the
+ * Answers 1, 2, 3 and KT11B_NO_UNIT leave unit and memory as they were. Answers 4 to 10 leave memory as it was and change the
  * unit as its rules say. Memory changes only by a store that is answered KT11B_DONE, in the word or byte at that address.
  */
 unsigned long kt11b_access(unsigned short *unit, unsigned char *memory, unsigned long length, unsigned long operation,

@@ -126,7 +126,7 @@ static void plain_answers(void)
     expect_bare("words that don't hold a unit", kt11b_init(unit), KT11B_NO_UNIT);
 }
 
-/* A violation has just been given: its flag and no other, and the unit waits. */
+/* A violation, a 10 or a paged 9 has just been given: its flag, if it has one, and no other, and the unit waits. */
 static void left_by_violation(const char *what, unsigned flag)
 {
     check((ktcs() & FLAGS) == flag, what);
@@ -151,6 +151,20 @@ static void violations(void)
     start_user();
     expect("a user's RESET", fetch(001012), KT11B_IV, 5, 020012);
     left_by_violation("the flag of a user's RESET", KT11B_KTCS_IV);
+}
+
+/* A paged access whose target, or whose map word, is not in memory: it has no flag, and the unit waits all the same. */
+static void not_in_memory(void)
+{
+    start_user();
+    put_word(05412, 0120776);
+    expect_bare("a target that is not in memory", read_word(005010), KT11B_TIME_OUT);
+    left_by_violation("no flag of a time-out", 0);
+    make_unit();
+    store_word(0177616, 0177200);
+    store_word(0177576, 2);
+    expect_bare("a map word at 200402, past memory", read_word(001010), KT11B_OFF_MAP);
+    left_by_violation("no flag of a walk that ran off memory", 0);
 }
 
 /* Only DATIP asks for the write key of a read, and only DATOB stores a byte. */
@@ -259,6 +273,7 @@ static void every_name(void)
 {
     plain_answers();
     violations();
+    not_in_memory();
     operations();
     waits();
     registers();

@@ -142,7 +142,7 @@ static int checked_answer(unsigned long reply)
     int answer = KT11B_REPLY_ANSWER(reply);
 
     check((reply & ~REPLY_BITS) == 0, "no other bit is set in a reply");
-    check(answer <= KT11B_TIME_OUT || answer == KT11B_NO_UNIT, "the answer is one of the list");
+    check(answer <= KT11B_OFF_MAP || answer == KT11B_NO_UNIT, "the answer is one of the list");
     if (!KT11B_REPLY_HAS_PHYSICAL(reply)) {
         check(KT11B_REPLY_PHYSICAL(reply) == 0, "no physical address is 0");
     }

@@ -20,6 +20,10 @@
 /* Of so many calls of a run one is INIT, and seven are interrupts and traps. */
 #define CALLS 200
 
+/* The memory of a long run, and so little of it that walks run off: it ends before the upper half of any map page. */
+#define WHOLE 65536UL
+#define LITTLE 256UL
+
 static const unsigned long both[] = {KT11B_CELLS_8, KT11B_CELLS_24};
 
 /* A reply with an answer alone, as making and refusals have it. */
@@ -239,7 +243,7 @@ static void lend_with_maps(void)
     static const unsigned long known[] = {0, 1, 5, 0400, 2, 0200, 04000, 0104400};
     unsigned long place;
 
-    lend(65536);
+    lend(WHOLE);
     for (place = 0; place < 4 * 512; place += 2) {
         unsigned long keys = below(16) ? 0120000 | (next_random() & 0040000) : next_random() & 0160000;
 
@@ -376,7 +380,7 @@ static void check_same_readings(void)
 /* "what stands in those words changes no answer": calls of two units that differ only there, over memories that are equal. */
 static void garbage(unsigned long rounds)
 {
-    unsigned long answers[KT11B_TIME_OUT + 1] = {0}, answer;
+    unsigned long answers[KT11B_OFF_MAP + 1] = {0}, answer;
     struct access made;
 
     lend_with_maps();
@@ -388,14 +392,16 @@ static void garbage(unsigned long rounds)
         steered_access(&made);
         garble(&made);
         check_same_readings();
+        length = below(16) ? WHOLE : LITTLE;
         reply = one_call(unit, memory, &made, kind);
         answers[checked_answer(reply)]++;
         check(one_call(garbled, expected, &made, kind) == reply, "the same reply");
         check_same_words();
     }
-    for (answer = KT11B_DONE; answer <= KT11B_TIME_OUT; answer++) {
+    for (answer = KT11B_DONE; answer <= KT11B_OFF_MAP; answer++) {
         check(answers[answer] > 0, "the run came to every answer");
     }
+    length = WHOLE;
     give_back();
 }
 

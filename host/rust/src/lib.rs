@@ -77,5 +77,6 @@ pub use unit::{map_page, Unit, CELLS_24, CELLS_8, LONGEST_MEMORY, UNIT_WORDS};
 /// The version of the library's interface, the same number as the C header's `KT11B_VERSION`.
 ///
 /// It rises with each change of a function of the library, of an answer or of the unit's words. Words that were saved are for
-/// the same version alone.
-pub const VERSION: u32 = 2;
+/// the same version alone, but those that version 2 saved are words of version 3 too: it brought [`Answer::OffMap`] and changed
+/// no word.
+pub const VERSION: u32 = 3;

@@ -149,7 +149,8 @@ impl Wait {
 /// The answers.
 ///
 /// 1, 2, 3, `OtherCount` and `NoUnit` change nothing at all. 4 to 8 set their flag in KTCS, put the unit into exec and leave it
-/// waiting for two SERVICE DATOs, and so does a time-out of a paged access, which has no flag.
+/// waiting for two SERVICE DATOs. `OffMap` does the same and has no flag, and so does `TimeOut` of a paged access. The two say
+/// what was not there: with `TimeOut` the target itself, with `OffMap` a word of the maps on the way to it.
 #[derive(Clone, Copy, PartialEq, Eq, Hash, Debug)]
 #[non_exhaustive]
 pub enum Answer {
@@ -171,8 +172,10 @@ pub enum Answer {
     PrivacyViolation,
     /// 8, IV: a user's HALT, WAIT or RESET, or a private page entered at no entry point.
     InstructionViolation,
-    /// 9: nothing answers at that address, or at its map word's.
+    /// 9: nothing answers at the target's address.
     TimeOut,
+    /// 10: the walk ran off memory: no map word or pointer at that address. Look at KTUM, KTEM or the pointer.
+    OffMap,
     /// 30: a unit is made with 8 or 24 cells, and this is another number. It answers
     /// [`Unit::with_cells`](crate::Unit::with_cells), and no call of a unit.
     OtherCount,
@@ -195,6 +198,7 @@ impl Answer {
             7 => Answer::PrivacyViolation,
             8 => Answer::InstructionViolation,
             9 => Answer::TimeOut,
+            10 => Answer::OffMap,
             30 => Answer::OtherCount,
             70 => Answer::NoUnit,
             other => Answer::Other(other),

@@ -16,7 +16,7 @@ fn each_by_a_call_that_gives_it() {
     }
 }
 
-/// "its flag is set (9 has none)", and no other one.
+/// "its flag is set (9 has none)", and no other one; 10 has none either: "State changes are as for 9".
 #[test]
 fn each_with_its_flag() {
     let flags = ktcs::RV | ktcs::PV | ktcs::WV | ktcs::AV | ktcs::IV;
@@ -28,13 +28,14 @@ fn each_with_its_flag() {
     }
 }
 
-/// After answers 4 to 8 "the unit waits for two SERVICE DATOs"; none of the others here leaves it waiting.
+/// After answers 4 to 8 and 10 "the unit waits for two SERVICE DATOs"; none of the others here leaves it waiting, since the 9 is
+/// unpaged.
 #[test]
 fn each_with_its_wait() {
     for case in CASES {
         let (rig, _) = (case.call)();
         let expected = match case.number {
-            4..=8 => Some(Wait::Status),
+            4..=8 | 10 => Some(Wait::Status),
             70 => None,
             _ => Some(Wait::Nothing),
         };

@@ -1,4 +1,5 @@
-//! "A map word or pointer at or beyond L is a time-out": each kind of map word at L, where it is not there, and just below L.
+//! "A map word or pointer at or beyond L is a time-out": by T-01 it is answered 10, "10 takes 9's place at step 6". Each kind
+//! of map word at L, where it is not there, and just below L.
 
 mod common;
 
@@ -40,21 +41,21 @@ impl Walk {
         (rig, reply)
     }
 
-    /// "A walk that times out fills nothing", and so the counter stays where it was.
-    fn times_out_with(&self, length: usize) {
+    /// "A walk that times out fills nothing": by T-01 such a walk "ran off memory". So the counter stays where it was.
+    fn runs_off_with(&self, length: usize) {
         for cells in BOTH {
-            self.times_out(cells, length);
+            self.runs_off(cells, length);
         }
     }
 
-    fn times_out(&self, cells: u64, length: usize) {
+    fn runs_off(&self, cells: u64, length: usize) {
         let (rig, reply) = self.read(cells, length);
-        assert_eq!(parts(reply), (Answer::TimeOut, 0, None), "L={length:o}");
+        assert_eq!(parts(reply), (Answer::OffMap, 0, None), "L={length:o}");
         assert_eq!(rig.unit.counter(), Some(0o10), "L={length:o}");
         for cell in 0..cells as usize {
             assert_eq!((rig.unit.cell_tag(cell), rig.unit.cell_word(cell)), (Some(0), Some(0)));
         }
-        // It was paged, and a time-out has no flag: DS is the DESTINATION read's, IU has taken UM.
+        // 10 has no flag: DS is the DESTINATION read's, IU has taken UM.
         let iu = if self.user { ktcs::IU } else { 0 };
         assert_eq!(rig.unit.register(Register::Ktcs), Some(iu | ktcs::DS | 2));
         assert_eq!(rig.unit.register(Register::Ktad), Some(self.address));
@@ -89,7 +90,7 @@ fn an_exec_page() {
         address: 0o001010,
         tag: 0o001,
     };
-    walk.times_out_with(0o001402);
+    walk.runs_off_with(0o001402);
     walk.is_done_with(0o001404);
 }
 
@@ -104,7 +105,7 @@ fn an_exec_page_of_the_process() {
         address: 0o001010,
         tag: 0o001,
     };
-    walk.times_out_with(0o005002);
+    walk.runs_off_with(0o005002);
     walk.is_done_with(0o005004);
 }
 
@@ -119,7 +120,7 @@ fn a_user_page() {
         address: 0o003010,
         tag: 0o203,
     };
-    walk.times_out_with(0o005406);
+    walk.runs_off_with(0o005406);
     walk.is_done_with(0o005410);
 }
 
@@ -135,7 +136,7 @@ fn a_word_that_is_pointed_to() {
         tag: 0o204,
     };
     for length in [0o005410, 0o005412, 0o007404, 0o007406] {
-        walk.times_out_with(length);
+        walk.runs_off_with(length);
     }
     walk.is_done_with(0o007410);
 }
@@ -151,6 +152,6 @@ fn a_pointer() {
         address: 0o004010,
         tag: 0o204,
     };
-    walk.times_out_with(0o005410);
+    walk.runs_off_with(0o005410);
     walk.is_done_with(0o005412);
 }

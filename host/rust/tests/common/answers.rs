@@ -1,4 +1,4 @@
-//! The twelve answers, each with a call of the library that gives it.
+//! The thirteen answers, each with a call of the library that gives it.
 
 use super::Rig;
 use kt11b::{ktcs, Answer, NumberedAccess, Reply, Unit, UNIT_WORDS};
@@ -7,7 +7,7 @@ use kt11b::{ktcs, Answer, NumberedAccess, Reply, Unit, UNIT_WORDS};
 pub struct Case {
     /// The answer's name in the header, behind KT11B_.
     pub name: &'static str,
-    /// Its number in 01's table "What comes back"; 30 is that of a making, and 70 the library's own.
+    /// Its number in 01's table "What comes back"; 10 is T-01's, 30 is that of a making, and 70 the library's own.
     pub number: u8,
     /// Answer, data and physical address of the reply.
     pub parts: (Answer, u16, Option<u32>),
@@ -22,7 +22,7 @@ const fn bare(name: &'static str, number: u8, answer: Answer, call: fn() -> (Rig
 }
 
 /// Every answer once, in the order of the numbers.
-pub const CASES: [Case; 12] = [
+pub const CASES: [Case; 13] = [
     Case {
         parts: (Answer::Done, 0o000123, Some(0o020010)),
         ..bare("DONE", 0, Answer::Done, a_read_that_is_done)
@@ -40,6 +40,7 @@ pub const CASES: [Case; 12] = [
         ..bare("IV", 8, Answer::InstructionViolation, a_users_reset)
     },
     bare("TIME_OUT", 9, Answer::TimeOut, an_address_that_nothing_answers),
+    bare("OFF_MAP", 10, Answer::OffMap, a_map_past_memory),
     bare("OTHER_COUNT", 30, Answer::OtherCount, a_unit_with_16_cells),
     bare("NO_UNIT", 70, Answer::NoUnit, words_of_zero),
 ];
@@ -118,6 +119,15 @@ fn a_users_reset() -> (Rig, Reply) {
 fn an_address_that_nothing_answers() -> (Rig, Reply) {
     let mut rig = Rig::new();
     let reply = rig.read(0o160000);
+    (rig, reply)
+}
+
+/// "10 takes 9's place at step 6": KTEM names physical page 200, so page 1's word would be at 200402, and L is 200000.
+fn a_map_past_memory() -> (Rig, Reply) {
+    let mut rig = Rig::new();
+    rig.write(0o177616, 0o177200);
+    rig.write(0o177576, 0o000002);
+    let reply = rig.read(0o001010);
     (rig, reply)
 }
 
