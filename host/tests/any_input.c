@@ -127,11 +127,18 @@ static void scribbled_units(unsigned long rounds)
     give_back();
 }
 
-/* A unit that waits for the first SERVICE DATO, after an odd word in exec page 0. It needs no memory. */
-static void waiting_unit(void)
+/* A unit in FCN 2. It needs no memory. */
+static void paging_unit(void)
 {
     fresh_unit(either_number());
     kt11b_access(unit, memory, length, KT11B_DATO, KT11B_EXECUTE, KT11B_WORD, 0177576, 2);
+    check(KT11B_REPLY_DATA(kt11b_register(unit, KT11B_KTCS)) == 2, "FCN 2 is stored");
+}
+
+/* One that waits for the first SERVICE DATO, after an odd word in exec page 0. */
+static void waiting_unit(void)
+{
+    paging_unit();
     kt11b_access(unit, memory, length, KT11B_DATI, KT11B_EXECUTE, KT11B_WORD, 1, 0);
     check(KT11B_REPLY_DATA(kt11b_wait(unit)) == KT11B_WAIT_STATUS, "an odd word, paged, leaves the unit waiting");
 }
@@ -146,11 +153,25 @@ static void try_numbers(struct access *made)
     fresh_unit(either_number());
     answer = try_access(made);
     check(listed || answer == KT11B_MISSHAPEN, "a number outside its list is misshapen");
-    check(answer == KT11B_MISSHAPEN || answer == KT11B_TIME_OUT, "no memory: shape, or a time-out");
+    check(answer == KT11B_MISSHAPEN || answer == KT11B_TIME_OUT, "no memory, unpaged: shape, or a time-out");
     waiting_unit();
     answer = try_access(made);
     check(listed || answer == KT11B_MISSHAPEN, "1 comes before 2");
     check((answer == KT11B_DONE) == due, "the access that is due is taken, and no other");
+}
+
+/* The same at an address of exec page 0, which has no map word, and of exec page 1, whose map word is not there. */
+static void try_paged(const struct access *made)
+{
+    struct access in_page_1 = *made;
+    int answer;
+
+    in_page_1.address += 01000;
+    paging_unit();
+    answer = try_access(made);
+    check(answer == KT11B_MISSHAPEN || answer == KT11B_TIME_OUT, "no memory, paged: shape, or no target");
+    paging_unit();
+    check(try_access(&in_page_1) == (answer == KT11B_TIME_OUT ? KT11B_OFF_MAP : answer), "and where it is walked, no map word");
 }
 
 /* Every operation from 0 to 300, with every state and width and one beyond. */
@@ -165,6 +186,7 @@ static void every_operation(void)
         for (made.state = 0; made.state <= 5; made.state++) {
             for (made.width = 0; made.width <= 2; made.width++) {
                 try_numbers(&made);
+                try_paged(&made);
             }
         }
         try_readings(made.operation);
