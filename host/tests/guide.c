@@ -162,6 +162,44 @@ static void paged_refusals(void)
     violation(read_word(EXECUTE, 04000), KT11B_TIME_OUT, 0);
 }
 
+/* User page 101 is not simple: its pointer, at 005602, names physical page 200, which is past core. */
+static void user_with_a_wild_pointer(void)
+{
+    user_runs();
+    put_core_word(05602, 0000200);
+}
+
+/* "10 takes 9's place at step 6": the trap is that of a violation, and the map registers tell where to look. */
+static void off_the_map(void)
+{
+    user_with_a_wild_pointer();
+    violation(read_word(EXECUTE, 0101010), KT11B_OFF_MAP, 0);
+    check(reg(KT11B_KTAD) == 0101010, "KTAD has the virtual address");
+    check(!past_core(KT11B_KTUM) && !past_core(KT11B_KTEM), "both maps are in core, so it was the pointer");
+
+    exec_paged();
+    check(write_word(EXECUTE, 02614, 0100200) == KT11B_DONE && write_word(EXECUTE, 02610, 01010) == KT11B_DONE,
+        "a user map past core, and a window on user page 1");
+    check(read_word(EXECUTE, 02572) == KT11B_OFF_MAP && reg(KT11B_KTAD) == 01010, "the inner walk: KTAD is its address");
+    check(past_core(KT11B_KTUM) && !past_core(KT11B_KTEM), "and KTUM is to blame");
+
+    new_machine();
+    check(write_word(EXECUTE, 0177616, 0177200) == KT11B_DONE && write_word(EXECUTE, 0177576, 2) == KT11B_DONE,
+        "an exec map past core");
+    check(read_word(EXECUTE, 01010) == KT11B_OFF_MAP && past_core(KT11B_KTEM), "KTEM is to blame");
+}
+
+/* A stack whose map word is past core: exec page 177 is not simple by KTEM 100001, so its word is in KTUM's page. */
+static void stack_off_the_map(void)
+{
+    exec_paged();
+    check(write_word(EXECUTE, 02616, 0100001) == KT11B_DONE && write_word(EXECUTE, 02614, 0100200) == KT11B_DONE,
+        "the maps are stored");
+    r[6] = 0177700, r[7] = 0500, ps = 0011;
+    check(trap(030) && r[7] == 0200 && ps == 0340, "the trap through 4 takes the place of EMT's");
+    check(reg(KT11B_KTAD) == 0177676 && reg(KT11B_KTPC) == 0500, "its stores go to the registers");
+}
+
 /* "bus errors on bus errors" halt the processor. */
 static void second_bus_error(void)
 {
@@ -257,15 +295,25 @@ static void reset_of_a_monitor(void)
     check(bus(KT11B_DATI, KT11B_FETCH, KT11B_WORD, 012, 0, &word) == KT11B_DONE && word == 0240, "then unpaged");
 }
 
-/* "9 has none": the monitor's first fetch takes KTIC, SS and DS. With a flag it takes neither. */
-static void what_is_left(void)
+/* "9 has none", and nor has 10: the monitor's first fetch takes KTIC, SS and DS. */
+static void left_without_a_flag(unsigned short address, int expected)
 {
-    user_runs();
+    int answer;
+
+    user_with_a_wild_pointer();
     put_core_word(05410, 0120776), put_core_word(020100, 012700);
     read_word(KT11B_FETCH, 0100);
-    check(goes_on(read_word(DESTINATION, 04000)) == 0 && (ktcs() & KT11B_KTCS_DS), "a time-out sets DS at step 4");
+    answer = read_word(DESTINATION, address);
+    check(answer == expected && goes_on(answer) == 0 && (ktcs() & KT11B_KTCS_DS), "DS is set at step 4");
     check(read_word(KT11B_FETCH, r[7]) == KT11B_DONE, "the monitor's first fetch");
     check(reg(KT11B_KTIC) == 0200 && !(ktcs() & KT11B_KTCS_DS), "takes KTIC and clears DS");
+}
+
+/* With a flag it takes neither. */
+static void what_is_left(void)
+{
+    left_without_a_flag(004000, KT11B_TIME_OUT);
+    left_without_a_flag(0101000, KT11B_OFF_MAP);
 
     user_runs();
     put_core_word(020100, 012700);
@@ -334,7 +382,7 @@ static void device_as_memory(unsigned short fetched)
     }
 }
 
-/* What the copy can't do is answered 9 as without it. */
+/* What the copy can't do is answered as without it: 9, and 10 where a map word is missing. */
 static void devices_out_of_reach(void)
 {
     unsigned short word;
@@ -348,6 +396,10 @@ static void devices_out_of_reach(void)
     put_core_word(05412, 0120777);
     check(write_word(EXECUTE, 02610, 05776) == KT11B_DONE, "KTAD is the user's way to 777776");
     check(bus_with_devices(KT11B_DATI, EXECUTE, KT11B_WORD, 02572, 0, &word) == KT11B_TIME_OUT, "through the window");
+    exec_paged();
+    check(write_word(EXECUTE, 02616, 0177777) == KT11B_DONE, "the exec's map in the registers' page");
+    check(bus_with_devices(KT11B_DATI, DESTINATION, KT11B_WORD, 01776, 0, &word) == KT11B_OFF_MAP, "no map word is a device's");
+    check(waits_for() == KT11B_WAIT_STATUS && reg(KT11B_KTAD) == 01776, "and the 10 is left as it is");
 }
 
 static void a_question(void)
@@ -426,8 +478,12 @@ static void save_and_restore(void)
     check(read_word(EXECUTE, 0101) == KT11B_AV, "the unit goes on");
     check(restore(&kept) && ktcs() == 022 && !unit_waits(), "and is put back");
     other = kept;
-    other.version++;
-    check(!restore(&other) && ktcs() == 022, "another version is refused");
+    other.version = KT11B_VERSION + 1;
+    check(!restore(&other) && ktcs() == 022, "a later version is refused");
+    other.version = 1;
+    check(!restore(&other) && ktcs() == 022, "version 1 is refused");
+    other.version = 2;
+    check(read_word(EXECUTE, 0101) == KT11B_AV && restore(&other) && ktcs() == 022, "version 2 has the same words");
     other = kept;
     other.words[0] ^= 1;
     check(!restore(&other) && ktcs() == 022, "another layout is refused");
@@ -445,6 +501,8 @@ static void whole_guide(void)
     unpaged_time_out();
     unpaged_time_out_of_a_user();
     paged_refusals();
+    off_the_map();
+    stack_off_the_map();
     second_bus_error();
     state_of_a_store();
     held_interrupt();
