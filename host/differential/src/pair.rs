@@ -28,8 +28,8 @@ const EIGHT: [Register; 8] = [
 /// How often something came in a run.
 #[derive(Clone, Copy, Default, Debug)]
 pub struct Counts {
-    /// Each answer.
-    pub answers: [u64; 10],
+    /// Each answer, 0 to 10.
+    pub answers: [u64; 11],
     /// A call left every cell of the unit held, where one or more were empty before it.
     pub filled: u64,
     /// The counter stepped from the unit's last cell to 10o.

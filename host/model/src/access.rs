@@ -1,7 +1,7 @@
 //! The access call: its shape, its steps in 01's order, and what a refusal leaves behind.
 
 use crate::instruction::Kind;
-use crate::maps::{tag_of, Entry};
+use crate::maps::{tag_of, Entry, RanOff};
 use crate::registers::{Part, Target};
 use crate::state::{
     Reply, Unit, Wait, AV, DS, ERRORS, FCN, IV, KTAD, KTDT, KTIC, KTPC, KTPS, KTSP, PV, RV, SS, UM,
@@ -10,6 +10,10 @@ use crate::state::{
 
 /// The lent memory ends at 760000o at the latest.
 const LONGEST_MEMORY: usize = 0o760000;
+
+/// "10 takes 9's place at step 6, also in the window's inner walk; 9 stays at step 10."
+const RAN_OFF_MEMORY: u8 = 10;
+const TIME_OUT: u8 = 9;
 
 #[derive(Clone, Copy, PartialEq, Eq, Debug)]
 pub(crate) enum Operation {
@@ -126,7 +130,7 @@ fn length_fits(length: usize) -> bool {
     length & 1 == 0 && length <= LONGEST_MEMORY
 }
 
-/// The flag of a refusal; a time-out has none.
+/// The flag of a refusal; a time-out and a walk that ran off memory have none.
 fn flag_of(answer: u8) -> u16 {
     match answer {
         4 => AV,
@@ -282,7 +286,7 @@ impl Unit {
             Target::Window | Target::Nothing => {
                 self.registers[KTAD] = request.address;
                 self.registers[KTDT] = request.stored_data();
-                Reply::bare(9)
+                Reply::bare(TIME_OUT)
             }
             target if request.fetch() => {
                 let word = self.read(memory, target);
@@ -308,7 +312,7 @@ impl Unit {
         let physical = entry.physical(request.address);
         match Target::at(physical, memory.len(), self.cells) {
             Target::Window if !request.fetch() => self.window_access(memory, request),
-            Target::Window | Target::Nothing => self.refuse(request, fault(9)),
+            Target::Window | Target::Nothing => self.refuse(request, fault(TIME_OUT)),
             target if request.fetch() => self.fetch_access(memory, request, &entry, target),
             target => self.transfer(memory, request, physical, target),
         }
@@ -325,7 +329,7 @@ impl Unit {
         };
         let physical = entry.physical(address);
         match Target::at(physical, memory.len(), self.cells) {
-            Target::Window | Target::Nothing => self.refuse(request, fault(9)),
+            Target::Window | Target::Nothing => self.refuse(request, fault(TIME_OUT)),
             target => self.transfer(memory, request, physical, target),
         }
     }
@@ -341,7 +345,7 @@ impl Unit {
         if request.odd_word(address) {
             return Err(4);
         }
-        let entry = self.entry(memory, user, address).ok_or(9)?;
+        let entry = self.entry(memory, user, address).map_err(|RanOff| RAN_OFF_MEMORY)?;
         if !entry.resident() {
             return Err(5);
         }

@@ -23,6 +23,10 @@ pub enum Route {
     UserShared(u32),
 }
 
+/// "The walk itself should report that it ran off memory": a map word or pointer that it needs is at or beyond L.
+#[derive(Clone, Copy, PartialEq, Eq, Debug)]
+pub(crate) struct RanOff;
+
 /// What an access gets for its page.
 #[derive(Clone, Copy, PartialEq, Eq, Debug)]
 pub(crate) struct Entry {
@@ -91,6 +95,12 @@ pub fn pointed_place(pointer: u16) -> u32 {
     page_base(pointer) + 256 + 2 * u32::from(pointer >> 9)
 }
 
+/// A map word or pointer. No register is read for one, so that each place from L on is off memory.
+#[inline]
+fn map_word(memory: &[u8], place: u32) -> Result<u16, RanOff> {
+    word_at(memory, place as usize).ok_or(RanOff)
+}
+
 /// The page a map register names as a part of the memory, or an empty part if it is not wholly there.
 pub fn map_page(memory: &[u8], map_register: u16) -> &[u8] {
     let base = page_base(map_register) as usize;
@@ -109,20 +119,25 @@ pub(crate) fn tag_of(user: bool, address: u16) -> u8 {
 }
 
 impl Unit {
-    /// Step 6: the entry by hit or walk, or none for a time-out.
+    /// Step 6: the entry by hit or walk, or that the walk ran off memory. Exec page 0 is never walked, and a hit walks nothing.
     #[inline]
-    pub(crate) fn entry(&mut self, memory: &[u8], user: bool, address: u16) -> Option<Entry> {
+    pub(crate) fn entry(
+        &mut self,
+        memory: &[u8],
+        user: bool,
+        address: u16,
+    ) -> Result<Entry, RanOff> {
         let tag = tag_of(user, address);
         if tag == 0 {
             let word = RESIDENT | WRITE_ENABLED | (self.registers[KTEM] & 0o777);
-            return Some(Entry { word, exec_zero: true });
+            return Ok(Entry { word, exec_zero: true });
         }
         if let Some(cell) = self.hit(tag) {
-            return Some(Entry { word: self.words[cell], exec_zero: false });
+            return Ok(Entry { word: self.words[cell], exec_zero: false });
         }
         let word = self.walk(memory, user, address >> 9)?;
         self.fill(tag, word);
-        Some(Entry { word, exec_zero: false })
+        Ok(Entry { word, exec_zero: false })
     }
 
     /// The cell that holds this tag. Each loop has a length that the compiler knows, since this is the part of a hit that is timed.
@@ -136,17 +151,17 @@ impl Unit {
         }
     }
 
-    /// A map word or pointer at or beyond L is a time-out.
+    /// The page's map word. One report for a map word, for a pointer's own word and for the word that a pointer leads to.
     #[inline]
-    fn walk(&self, memory: &[u8], user: bool, page: u16) -> Option<u16> {
+    fn walk(&self, memory: &[u8], user: bool, page: u16) -> Result<u16, RanOff> {
         match route(self.registers[KTUM], self.registers[KTEM], user, page) {
-            Route::ExecZero => None,
+            Route::ExecZero => unreachable!("exec page 0 is never walked"),
             Route::ExecSimple(place) | Route::ExecPerProcess(place) | Route::UserSimple(place) => {
-                word_at(memory, place as usize)
+                map_word(memory, place)
             }
             Route::UserShared(place) => {
-                let pointer = word_at(memory, place as usize)?;
-                word_at(memory, pointed_place(pointer) as usize)
+                let pointer = map_word(memory, place)?;
+                map_word(memory, pointed_place(pointer))
             }
         }
     }

@@ -66,31 +66,31 @@ fn a_page_not_resident_fills_a_cell_which_then_empties() {
     assert_eq!(rig.unit.counter(), 0o12);
 }
 
-/// "A map word or pointer at or beyond L is a time-out."
-/// "A walk that times out fills nothing."
+/// "A map word or pointer at or beyond L is a time-out.": by T-01 it is answered 10, "10 takes 9's place at step 6".
+/// "A walk that times out fills nothing.": by T-01 it is one that ran off memory.
 #[test]
-fn a_walk_that_times_out_fills_nothing_and_does_not_step() {
+fn a_walk_that_ran_off_memory_fills_nothing_and_does_not_step() {
     let mut rig = Rig::exec();
     rig.write(0o177616, 0o000777);
-    assert_eq!(rig.read(0o001000), bare(9));
+    assert_eq!(rig.read(0o001000), bare(10));
     assert_eq!((rig.unit.tags(), rig.unit.counter()), (&[0; 8][..], 0o10));
     // A pointer that leads beyond memory.
     let mut rig = Rig::user();
     rig.put(0o005410, 0o000200);
-    assert_eq!(rig.read(0o004000), bare(9));
+    assert_eq!(rig.read(0o004000), bare(10));
     assert_eq!((rig.unit.tags(), rig.unit.counter()), (&[0; 8][..], 0o10));
 }
 
-/// "A hit uses the cell."
+/// "A hit uses the cell.": it walks nothing, so that it can't run off memory.
 #[test]
-fn a_hit_never_times_out_at_step_6() {
+fn a_hit_never_runs_off_memory() {
     let mut rig = Rig::exec();
     rig.put(0o100402, 0o160002);
     rig.write(0o177616, 0o000100);
     assert_eq!(rig.read(0o001000), done(0, 0o002000));
     rig.memory.truncate(0o010000);
     assert_eq!(rig.read(0o001002), done(0, 0o002002));
-    assert_eq!(rig.read(0o002000), bare(9));
+    assert_eq!(rig.read(0o002000), bare(10));
 }
 
 /// "Other exec pages: word at 512·M(KTUM)+2p."
@@ -123,7 +123,8 @@ fn a_pointer_has_no_keys() {
     assert_eq!(rig.write(0o004000, 1), bare(6));
 }
 
-/// "Any of answers 4-8, or a paged 9: .. the cell of the page at fault .. empties"; answer 4 comes before "6. Walk (9)."
+/// "Any of answers 4-8, or a paged 9: .. the cell of the page at fault .. empties"; answer 4 comes before "6. Walk (9).", which
+/// T-01 answers 10.
 #[test]
 fn an_odd_word_empties_the_pages_cell() {
     let mut rig = Rig::exec();

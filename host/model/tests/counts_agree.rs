@@ -11,7 +11,8 @@ use kt11b_model::Reply;
 /// What a run of lines did.
 #[derive(Default, Debug)]
 struct Tally {
-    answers: [u64; 10],
+    /// Each answer, 0 to 10.
+    answers: [u64; 11],
     walks: u64,
     /// How often the seventh walk since all cells were emptied was made.
     seventh_walks: u64,

@@ -40,7 +40,7 @@ fn only_the_due_service_stores_are_taken_in_a_wait() {
 }
 
 /// "its flag is set (9 has none), KTAD takes the virtual address (for the inner window access KTAD stays), KTDT the
-/// store's data or, for 8, the fetched word, else 0"
+/// store's data or, for 8, the fetched word, else 0"; by T-01 "9 and 10 have none".
 #[test]
 fn ktdt_after_each_violation_and_flags_that_pile_up() {
     let mut rig = Rig::exec();

@@ -251,7 +251,7 @@ fn ktic_is_loaded_by_every_paged_fetch() {
 }
 
 /// "4. Counts since the last fetch; then, if bits 15-11 are clear: KTIC from the address on a paged FETCH; SS and DS."
-/// "6. Walk (9)." Both come before what the access reads.
+/// "6. Walk (9).", which T-01 answers 10. Both come before what the access reads.
 #[test]
 fn a_register_read_sees_what_steps_4_and_6_did() {
     assert_eq!(Rig::exec().read(0o177576), done(0o000012, 0o777576));

@@ -57,7 +57,7 @@ impl Generator {
         for _ in 0..16 {
             let mut probe = self.machine.unit;
             match probe.entry(&self.machine.memory, user, address) {
-                Some(entry) if wanted(&entry) => break,
+                Ok(entry) if wanted(&entry) => break,
                 _ => address = self.page_address(),
             }
         }
@@ -81,7 +81,7 @@ impl Generator {
         let user = self.machine.unit.user_mode();
         let mut probe = self.machine.unit;
         let entry = probe.entry(&self.machine.memory, user, address);
-        let place = entry.and_then(|entry| u16::try_from(entry.physical(address)).ok());
+        let place = entry.ok().and_then(|entry| u16::try_from(entry.physical(address)).ok());
         if let Some(place) = place {
             self.push_word(place, word);
         }

@@ -100,7 +100,7 @@ impl Generator {
                 let reply = self.machine.call(call);
                 watch.count(&mut self.stats, &self.machine.unit, reply);
                 self.trouble = match reply.answer {
-                    4..=9 => self.trouble + 5,
+                    4..=10 => self.trouble + 5,
                     _ => self.trouble.saturating_sub(1),
                 };
             }

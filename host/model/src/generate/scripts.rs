@@ -274,7 +274,7 @@ impl Generator {
             let mut probe: Unit = self.machine.unit;
             let user = probe.user_mode();
             let entry = probe.entry(&self.machine.memory, user, page << 9);
-            entry.is_some_and(|entry| entry.resident() && entry.physical(offset) == place)
+            entry.is_ok_and(|entry| entry.resident() && entry.physical(offset) == place)
         };
         self.plan.pages.iter().find(leads).map(|&page| (page << 9) | offset)
     }

@@ -23,10 +23,13 @@ pub fn went_round(before: &Unit, after: &Unit) -> bool {
     after.counter() < before.counter() && after.tags().iter().any(|&tag| tag != 0)
 }
 
+/// A call is answered 0 to 10.
+const ANSWERS: usize = 11;
+
 #[derive(Default)]
 pub struct Stats {
     counts: BTreeMap<String, u64>,
-    answers: BTreeMap<&'static str, [u64; 10]>,
+    answers: BTreeMap<&'static str, [u64; ANSWERS]>,
 }
 
 impl Stats {
@@ -58,6 +61,12 @@ impl Stats {
         self.answers.values().map(|row| row[usize::from(answer)]).sum()
     }
 
+    /// The modes of the unit in which an answer was given, and how often in each.
+    pub fn modes_of(&self, answer: u8) -> BTreeMap<&'static str, u64> {
+        let counts = self.answers.iter().map(|(&mode, row)| (mode, row[usize::from(answer)]));
+        counts.filter(|&(_, count)| count > 0).collect()
+    }
+
     /// How often a named thing was counted.
     pub fn counted(&self, name: &str) -> u64 {
         self.counts.get(name).copied().unwrap_or(0)
@@ -65,7 +74,7 @@ impl Stats {
 
     fn write_answers(&self, to: &mut fmt::Formatter) -> fmt::Result {
         write!(to, "{:<22}", "answers")?;
-        for answer in 0..10 {
+        for answer in 0..ANSWERS {
             write!(to, "{answer:>7}")?;
         }
         writeln!(to)?;
@@ -77,8 +86,8 @@ impl Stats {
             writeln!(to)?;
         }
         write!(to, "{:<22}", "all")?;
-        for answer in 0..10 {
-            write!(to, "{:>7}", self.answered(answer))?;
+        for answer in 0..ANSWERS {
+            write!(to, "{:>7}", self.answered(answer as u8))?;
         }
         writeln!(to)
     }

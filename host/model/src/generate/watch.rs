@@ -244,7 +244,7 @@ fn look_up(before: &Unit, memory: &[u8], request: &Request) -> &'static str {
     }
     let mut probe = *before;
     let registers = before.registers();
-    let finished = probe.entry(memory, user, request.address).is_some();
+    let finished = probe.entry(memory, user, request.address).is_ok();
     match route(registers[KTUM], registers[KTEM], user, request.address >> 9) {
         Route::ExecZero => "exec page 0",
         Route::ExecSimple(_) if finished => "walk, exec simple",
@@ -252,9 +252,10 @@ fn look_up(before: &Unit, memory: &[u8], request: &Request) -> &'static str {
         Route::UserSimple(_) if finished => "walk, user simple",
         Route::UserShared(_) if finished => "walk, user shared",
         Route::UserShared(place) if word_at(memory, place as usize).is_some() => {
-            "walk timed out after the pointer"
+            "walk ran off memory after a pointer"
         }
-        _ => "walk timed out",
+        Route::UserShared(_) => "walk ran off memory at a pointer",
+        _ => "walk ran off memory at a map word",
     }
 }
 
@@ -280,7 +281,7 @@ fn paged_target(before: &Unit, memory: &[u8], request: &Request) -> Option<(u32,
 fn window(before: &Unit, memory: &[u8], request: &Request) -> Option<&'static str> {
     let mut probe = *before;
     let user = before.user_mode();
-    let outer = probe.entry(memory, user, request.address)?;
+    let outer = probe.entry(memory, user, request.address).ok()?;
     if Target::at(outer.physical(request.address), memory.len(), before.cells()) != Target::Window {
         return None;
     }
@@ -292,7 +293,9 @@ fn window(before: &Unit, memory: &[u8], request: &Request) -> Option<&'static st
         return Some("outer fault");
     }
     let address = before.registers()[KTAD];
-    let inner = probe.entry(memory, true, address)?;
+    let Ok(inner) = probe.entry(memory, true, address) else {
+        return Some("inner, walk ran off memory");
+    };
     Some(match Target::at(inner.physical(address), memory.len(), before.cells()) {
         Target::Window => "on window",
         Target::Memory(_) => "inner, memory",
