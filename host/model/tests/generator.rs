@@ -70,7 +70,7 @@ fn every_answer_comes_hundreds_of_times() {
     ];
     for cells in BOTH {
         reached(1, cells, |stats| {
-            for answer in 0..10 {
+            for answer in 0..=10 {
                 let count = stats.answered(answer);
                 assert!(count >= 200, "{cells} cells: answer {answer} came {count} times");
             }
@@ -78,6 +78,45 @@ fn every_answer_comes_hundreds_of_times() {
                 let count = stats.counted(path);
                 assert!(count >= 200, "{cells} cells: {path}, {count} times");
             }
+        });
+    }
+}
+
+/// "A map word beyond L, the pointer's own word beyond L, and the word that a pointer leads to beyond L are all 10."
+/// "This holds for the access's own page and for a window's inner page."
+#[test]
+fn walks_run_off_memory_at_each_of_their_words() {
+    let least = [
+        ("look-up: walk ran off memory at a map word", 300),
+        ("look-up: walk ran off memory at a pointer", 10),
+        ("look-up: walk ran off memory after a pointer", 150),
+        ("window inner, walk ran off memory: answer 10", 200),
+    ];
+    for cells in BOTH {
+        reached(1, cells, |stats| {
+            for (name, least) in least {
+                let count = stats.counted(name);
+                assert!(count >= least, "{cells} cells: {name}, {count} times");
+            }
+        });
+    }
+}
+
+/// "10 comes wherever an access is paged .. Unpaged accesses are never answered 10, nor are interrupt, trap and INIT."
+#[test]
+fn answer_10_comes_in_every_paged_mode_and_in_no_other() {
+    let paged = [
+        "FCN 1 paged exec",
+        "FCN 1 paged user",
+        "FCN 2 exec",
+        "FCN 2 user",
+        "FCN 3 fetch exec",
+        "FCN 3 fetch user",
+    ];
+    for cells in BOTH {
+        reached(1, cells, |stats| {
+            let modes: Vec<&str> = stats.modes_of(10).into_keys().collect();
+            assert_eq!(modes, paged, "{cells} cells");
         });
     }
 }
