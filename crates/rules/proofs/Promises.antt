@@ -166,7 +166,7 @@ pub record ByTests (ts : List Test) (a : Answer) : Type 0 where
 abbrev pub AnsweredInOrder : Type 0
 AnsweredInOrder = (m : Memory) (u : Unit) (c : Call) → ByTests (testsOf m u c) (callOf m u c .reply .answer)
 
--- the number of the answer, by 01's table
+-- the number of the answer, by 01's table and T-01
 abbrev pub numberOf : After → ℕ
 numberOf a = shown (a .reply .answer) .number
 
@@ -188,6 +188,12 @@ pub record NumbersOfSteps : Type 0 where
 -- a call has an answer, one of 0 to 10: `callOf` is a function, so that there always is one
 abbrev pub Numbered : Type 0
 Numbered = (m : Memory) (u : Unit) (c : Call) → numberOf (callOf m u c) < 11
+
+-- "Answers 0 and 8 of an access give the physical address ..; .. the other answers give none.", and the data of each other answer is 0
+abbrev pub BareRefusals : Type 0
+BareRefusals =
+    (m : Memory) (u : Unit) (c : Call) → numberOf (callOf m u c) ≢ 0 → numberOf (callOf m u c) ≢ 8
+    → shown (callOf m u c .reply .answer) ≡ record { number = numberOf (callOf m u c); datum = 0; physical = Physical.Nowhere }
 
 -- "18-bit address": of an access at a 16-bit address, each physical address that comes back is one
 abbrev pub EighteenBits : Type 0
@@ -214,7 +220,8 @@ pub record OuterRanOff (m : Memory) (u : Unit) (q : Access) : Type 0 where
   pub not-exec-zero : execZero (u .core .ktcs .um) (pageOf (q .addr)) ≡ false
   pub ran-off : RanOff m (u .maps) (u .cells) (u .core .ktcs .um) (pageOf (q .addr))
 
--- a paged access that goes on through the window: all tests of its own page pass
+-- a paged access that goes on through the window: all tests of its own page pass, its target is the window, it is no fetch, and step 5 passes again, since
+-- KTAD is no odd word
 pub record GoesInside (m : Memory) (u : Unit) (q : Access) : Type 0 where
   pub passes : allPass (outerTests m u q) ≡ true
   pub window : outerPlace m u q ≡ Place.Window
@@ -400,7 +407,7 @@ cellsLooked m u q =
     pick (oddWord (q .width) (q .addr)) (u .cells)
     (pick (faultInside m u q && not (oddWord (q .width) (windowAddr (job u q)))) (inner m u q .cells) (outer m u q .cells))
 
--- "answers 4 to 8 and a paged 9 change only what steps 4 and 6 do and the sequence", and so does 10 (T-01)
+-- "answers 4 to 8 and a paged 9 change only what steps 4 and 6 do and the sequence", and so does 10: "State changes are as for 9" (T-01)
 pub record Violation (m : Memory) (u : Unit) (q : Access) (a : After) : Type 0 where
   pub fault : Fault
   pub answer : a .reply .answer ≡ Answer.Fault fault
@@ -635,6 +642,7 @@ pub record Promises : Type 0 where
   pub answered-in-order : AnsweredInOrder
   pub numbers-of-steps : NumbersOfSteps
   pub numbered : Numbered
+  pub bare-refusals : BareRefusals
   pub two-reasons : TwoReasons
   pub eighteen-bits : EighteenBits
   pub memory-untouched : MemoryUntouched

@@ -1,7 +1,7 @@
 -- All promises of demands 1 and 3 and of the making of a unit, each from the file that proves it.
 use Rattle.rules.proofs.Promises.{Promises}
 use Rattle.rules.proofs.Demand1.InOrder.{answered-in-order}
-use Rattle.rules.proofs.Demand1.Ended.{numbers-of-steps, numbered, memory-untouched, length-kept, refused-unchanged, unpaged-refusal, paged-refusal, as-for-nine}
+use Rattle.rules.proofs.Demand1.Ended.{numbers-of-steps, numbered, bare-refusals, memory-untouched, length-kept, refused-unchanged, unpaged-refusal, paged-refusal, as-for-nine}
 use Rattle.rules.proofs.Demand1.Reasons.{two-reasons}
 use Rattle.rules.proofs.Demand1.Bits.{eighteen-bits}
 use Rattle.rules.proofs.Demand1.Kept.{step4-leaves, step6-leaves}
@@ -18,6 +18,7 @@ promises =
       answered-in-order = answered-in-order;
       numbers-of-steps = numbers-of-steps;
       numbered = numbered;
+      bare-refusals = bare-refusals;
       two-reasons = two-reasons;
       eighteen-bits = eighteen-bits;
       memory-untouched = memory-untouched;

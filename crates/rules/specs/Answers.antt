@@ -1,4 +1,5 @@
--- What comes back: the number, the data and the physical address of each answer, as 01's table and the sentence below it have them.
+-- What comes back: the number, the data and the physical address of each answer, as 01's table, the sentence below it and T-01 have
+-- them.
 use Prim.Native.Nat.{ℕ}
 use Rattle.rules.specs.Types.{Making, Fault, Answer, Physical, Returned}
 

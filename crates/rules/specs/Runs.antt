@@ -177,7 +177,8 @@ struck at unused = unused
 struck at (inUse ws) = pick (among (evenOf at) ws) outdated (inUse ws)
 struck at outdated = outdated
 
--- "It is forgotten by INIT, a KTUM or KTEM store, or any of answers 4 to 9 with it as the page at fault.", and by 10 (T-01)
+-- "It is forgotten by INIT, a KTUM or KTEM store, or any of answers 4 to 9 with it as the page at fault.", and by 10: "State changes are as for
+-- 9" (T-01)
 unfoldable pub historyAfter : Effect → History → History
 historyAfter Effect.Keep h t = h t
 historyAfter (Effect.Forget tag) h t = told h tag unused t

@@ -56,7 +56,7 @@ addressKept kept inner a = pick inner kept (set kept ktad a)
 unfoldable pub linesKept : List ℕ → Bool → ℕ → ℕ → List ℕ
 linesKept kept inner a d = set (addressKept kept inner a) ktdt d
 
--- "Any of answers 4-8, or a paged 9", and 10 (T-01), of the core
+-- "Any of answers 4-8, or a paged 9", of the core; and 10: "State changes are as for 9" (T-01)
 unfoldable pub violated : Core → Access → Bool → Fault → Core
 violated c q inner f = serviceAwaited (flagged (startEnded (c .ktcs)) f) (linesKept (c .kept) inner (q .addr) (faultData q f))
 

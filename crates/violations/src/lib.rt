@@ -93,7 +93,7 @@ pub fn lines_kept(kept: [u16; KEPT], inner: bool, a: u16, d: u16) -> [u16; KEPT]
     registers::kept_stored(address_kept(kept, inner, a), registers::KTDT, d)
 }
 
-// "Any of answers 4-8, or a paged 9", and 10 (T-01), of the core.
+// "Any of answers 4-8, or a paged 9", of the core; and 10: "State changes are as for 9" (T-01).
 pub fn violated(c: Core, q: Access, inner: bool, f: Fault) -> Core
     ensures { λ r. ⌜ r ≡ violated c q inner f ⌝ }
 {

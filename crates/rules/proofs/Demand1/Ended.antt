@@ -7,7 +7,7 @@ use native.Mathlib.Omega.{arith}
 use lib.Dec.{eqb, ltb, lit<}
 use lib.ListN.{length, length-set}
 use borrow.Author.Tests.{ltb-true, ltb-false, eqb-true, eqb-false}
-use Rattle.rules.specs.Types.{Core, Cells, Unit, Access, Call, Operating, Associative, Register, Target, Part, Fault, Answer, Effect, Ran}
+use Rattle.rules.specs.Types.{Core, Cells, Unit, Access, Call, Operating, Associative, Register, Target, Part, Fault, Answer, Physical, Returned, Effect, Ran}
 use Rattle.rules.specs.Memory.{Memory, storeWord, storeByte}
 use Rattle.rules.specs.Unit.{withKept}
 use Rattle.rules.specs.Registers.{placeOf, partOf}
@@ -18,7 +18,7 @@ use Rattle.rules.specs.Order.{outcome, operatingEffect, associativeEffec
 use Rattle.rules.specs.Calls.{mapsAfter, cellsAfter, memoryAfter, settled, callOf}
 use Rattle.rules.specs.Answers.{shownAs, faultShown, shown}
 use Rattle.rules.proofs.Laws.Choices.{picked}
-use Rattle.rules.proofs.Promises.{NumbersOfSteps, job, noTarget, Numbered, MemoryUntouched, LengthKept, RefusedUnchanged, UnpagedTimeOut, UnpagedRefusal, Violation, PagedRefusal, AsForNine}
+use Rattle.rules.proofs.Promises.{NumbersOfSteps, job, noTarget, Numbered, BareRefusals, MemoryUntouched, LengthKept, RefusedUnchanged, UnpagedTimeOut, UnpagedRefusal, Violation, PagedRefusal, AsForNine}
 use Rattle.rules.proofs.Statements.Ways.{ending, unchanged, timeOut, faultEnding, Transfer, read, store, Unpaged, AtFault}
 use Rattle.rules.proofs.Statements.Ways.{Way, misshapen, late, status-stored, program-counter-stored, first-read, second-read, unpaged-odd, unpaged-nowhere, unpaged-window, unpaged-fetch, unpaged-transfer, violation, fetch, transfer, inner-transfer}
 use Rattle.rules.proofs.Statements.Ways.{Why, access, interrupt-late, interrupt-taken, unlisted, trap-late, trap-taken, init, Stored, nothing, word, byte, StoredOnly}
@@ -125,6 +125,29 @@ answer-number Answer.NotDue = lit< tt
 answer-number Answer.UnpagedOdd = lit< tt
 answer-number (Answer.Fault f) = fault-number f .1
 
+-- what comes back with no data and no physical address
+abbrev bare : Returned → Type 0
+bare r = r ≡ record { number = r .number; datum = 0; physical = Physical.Nowhere }
+
+fault-bare : (f : Fault) → faultShown f .number ≢ 8 → bare (faultShown f)
+unfolding faultShown shownAs
+fault-bare Fault.OddAddress n = refl
+fault-bare Fault.NoMapWord n = refl
+fault-bare Fault.NotResident n = refl
+fault-bare Fault.NotWritable n = refl
+fault-bare Fault.NotPublic n = refl
+fault-bare Fault.NoTarget n = refl
+fault-bare (Fault.Forbidden w at) n = absurd (n refl)
+
+answer-bare : (a : Answer) → shown a .number ≢ 0 → shown a .number ≢ 8 → bare (shown a)
+unfolding shown shownAs
+answer-bare (Answer.Done w at) z n = absurd (z refl)
+answer-bare (Answer.Taken w) z n = absurd (z refl)
+answer-bare Answer.Misshapen z n = refl
+answer-bare Answer.NotDue z n = refl
+answer-bare Answer.UnpagedOdd z n = refl
+answer-bare (Answer.Fault f) z n = fault-bare f n
+
 module _ {m : Memory} where
   stored-untouched : {c : Call} {a : Answer} {n : Memory} → Stored m c a n → shown a .number ≢ 0 → n ≡ m
   unfolding shown shownAs
@@ -211,6 +234,9 @@ numbers-of-steps =
 
 pub numbered : Numbered
 numbered m u c = answer-number (callOf m u c .reply .answer)
+
+pub bare-refusals : BareRefusals
+bare-refusals m u c = answer-bare (callOf m u c .reply .answer)
 
 pub stored-only : StoredOnly
 unfolding callOf settled

@@ -25,7 +25,7 @@ operatingRegisters =
     Operating.Ktcs ∷ Operating.Kept ktic ∷ Operating.Kept ktsp ∷ Operating.Kept ktpc ∷ Operating.Kept ktps ∷ Operating.Kept ktad
     ∷ Operating.Kept ktdt ∷ Operating.Ktum ∷ Operating.Ktem ∷ []
 
--- What the host has after a call: the answer's number, data and physical address by 01's table (`shown` of specs/Answers.antt), the words of
+-- What the host has after a call: the answer's number, data and physical address by 01's table and T-01 (`shown` of specs/Answers.antt), the words of
 -- KTCS, KTIC, KTSP, KTPC, KTPS, KTAD, KTDT, KTUM and KTEM, and memory.
 pub record HostHas : Type 0 where
   pub answer : Returned

@@ -69,8 +69,8 @@ pub record StoreDone (m : Memory) (u : Unit) (q : Access) (at : ℕ) (t : Target
   pub operation : 1 < q .op
   pub place : placeOf (u .cells .size) (length m) at ≡ Place.There t
 
--- "It is forgotten by INIT, a KTUM or KTEM store, or any of answers 4 to 9 with it as the page at fault.", and by 10 (T-01): `AtFault` of Ways.antt
--- says of each such answer which page is at fault, and an unpaged 9 has none
+-- "It is forgotten by INIT, a KTUM or KTEM store, or any of answers 4 to 9 with it as the page at fault.", and by 10: "State changes are as for 9"
+-- (T-01). `AtFault` of Ways.antt says of each such answer which page is at fault, and an unpaged 9 has none
 pub data Forgets (m : Memory) (u : Unit) (tag : ℕ) : Call → Type 0 where
   by-init : Forgets m u tag Call.Init
   by-ktum-store : {q : Access} {at : ℕ} → StoreDone m u q at (operating Operating.Ktum) → Forgets m u tag (Call.Access q)
