@@ -155,7 +155,8 @@ impl Unit {
     #[inline]
     fn walk(&self, memory: &[u8], user: bool, page: u16) -> Result<u16, RanOff> {
         match route(self.registers[KTUM], self.registers[KTEM], user, page) {
-            Route::ExecZero => unreachable!("exec page 0 is never walked"),
+            // Not reached: the look-up makes no walk for exec page 0.
+            Route::ExecZero => Err(RanOff),
             Route::ExecSimple(place) | Route::ExecPerProcess(place) | Route::UserSimple(place) => {
                 map_word(memory, place)
             }
