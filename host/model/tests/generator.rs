@@ -115,7 +115,7 @@ fn answer_10_comes_in_every_paged_mode_and_in_no_other() {
     ];
     for cells in BOTH {
         reached(1, cells, |stats| {
-            let modes: Vec<&str> = stats.modes_of(10).into_keys().collect();
+            let modes = stats.modes_of(10);
             assert_eq!(modes, paged, "{cells} cells");
         });
     }

@@ -61,10 +61,10 @@ impl Stats {
         self.answers.values().map(|row| row[usize::from(answer)]).sum()
     }
 
-    /// The modes of the unit in which an answer was given, and how often in each.
-    pub fn modes_of(&self, answer: u8) -> BTreeMap<&'static str, u64> {
-        let counts = self.answers.iter().map(|(&mode, row)| (mode, row[usize::from(answer)]));
-        counts.filter(|&(_, count)| count > 0).collect()
+    /// The modes of the unit in which an answer was given, in their order.
+    pub fn modes_of(&self, answer: u8) -> Vec<&'static str> {
+        let given = self.answers.iter().filter(|(_, row)| row[usize::from(answer)] > 0);
+        given.map(|(&mode, _)| mode).collect()
     }
 
     /// How often a named thing was counted.
