@@ -203,11 +203,21 @@ EighteenBits =
 
 -- Demand 1: the two reasons, a walk that ran off memory (10) and a target that is not there (9) ---------------------------
 
--- steps 1 and 2 passed, and whether the access is unpaged
-pub record GoesOn (m : Memory) (u : Unit) (q : Access) (isUnpaged : Bool) : Type 0 where
+-- steps 1 and 2 passed
+pub record Begun (m : Memory) (u : Unit) (q : Access) : Type 0 where
   pub shaped : wellShaped (length m) q ≡ true
   pub due : dueOf (u .core) q ≡ Due.Steps
-  pub mode : unpaged (u .core .ktcs .fcn) (q .state) ≡ isUnpaged
+
+-- unpaged, and step 3 passed
+pub record Unpaged (m : Memory) (u : Unit) (q : Access) : Type 0 where
+  pub steps : Begun m u q
+  pub mode : unpaged (u .core .ktcs .fcn) (q .state) ≡ true
+  pub even : oddWord (q .width) (q .addr) ≡ false
+
+-- paged, which passes step 3
+pub record Paged (m : Memory) (u : Unit) (q : Access) : Type 0 where
+  pub steps : Begun m u q
+  pub mode : unpaged (u .core .ktcs .fcn) (q .state) ≡ false
 
 -- "The walk itself should report that it ran off memory" (T-01): the page is walked, since no cell of k holds it, and its walk does not finish
 pub record RanOff (m : Memory) (r : Maps) (k : Cells) (user : Bool) (p : ℕ) : Type 0 where
@@ -235,12 +245,12 @@ pub record InnerRanOff (m : Memory) (u : Unit) (q : Access) : Type 0 where
 
 -- what 10 means
 pub data WalkRanOff (m : Memory) (u : Unit) : Call → Type 0 where
-  outer-walk : {q : Access} → GoesOn m u q false → OuterRanOff m u q → WalkRanOff m u (Call.Access q)
-  inner-walk : {q : Access} → GoesOn m u q false → InnerRanOff m u q → WalkRanOff m u (Call.Access q)
+  outer-walk : {q : Access} → Paged m u q → OuterRanOff m u q → WalkRanOff m u (Call.Access q)
+  inner-walk : {q : Access} → Paged m u q → InnerRanOff m u q → WalkRanOff m u (Call.Access q)
 
 -- "answer 9 stays for targets" (T-01): of an unpaged access, of the access's own page, all of whose keys pass, and of a window's inner page alike
 pub record UnpagedNowhere (m : Memory) (u : Unit) (q : Access) : Type 0 where
-  pub even : oddWord (q .width) (q .addr) ≡ false
+  pub steps : Unpaged m u q
   pub nowhere : noTarget true (placeOf (u .cells .size) (length m) (unpagedAt (q .addr))) ≡ true
 
 pub record OuterNowhere (m : Memory) (u : Unit) (q : Access) : Type 0 where
@@ -255,9 +265,9 @@ pub record InnerNowhere (m : Memory) (u : Unit) (q : Access) : Type 0 where
 
 -- what 9 means
 pub data TargetNowhere (m : Memory) (u : Unit) : Call → Type 0 where
-  unpaged-target : {q : Access} → GoesOn m u q true → UnpagedNowhere m u q → TargetNowhere m u (Call.Access q)
-  outer-target : {q : Access} → GoesOn m u q false → OuterNowhere m u q → TargetNowhere m u (Call.Access q)
-  inner-target : {q : Access} → GoesOn m u q false → InnerNowhere m u q → TargetNowhere m u (Call.Access q)
+  unpaged-target : {q : Access} → UnpagedNowhere m u q → TargetNowhere m u (Call.Access q)
+  outer-target : {q : Access} → Paged m u q → OuterNowhere m u q → TargetNowhere m u (Call.Access q)
+  inner-target : {q : Access} → Paged m u q → InnerNowhere m u q → TargetNowhere m u (Call.Access q)
 
 -- "All callers of the walk then speak of two reasons where they spoke of one." (T-01)
 pub record TwoReasons : Type 0 where

@@ -13,9 +13,9 @@ use Rattle.rules.specs.Program.{Prog, run}
 use Rattle.rules.specs.Order.{outcome, refused, faulted, outerFault, transferred, fetched, wordJudged, unpagedReached, unpagedTimeOut, unpagedTarget, unpagedFrom, innerFault, innerTarget, innerRuled, windowed, pagedReached, outerTarget, outerRuled, pagedFrom, sequenced, afterWait, accessed}
 use Rattle.rules.specs.Calls.{interruptOf, trapOf, initOf, called}
 use Rattle.rules.proofs.Laws.RunLaws.{run-readAt}
-use Rattle.rules.proofs.Promises.{job, outer, inner}
+use Rattle.rules.proofs.Promises.{job, outer, inner, Begun, Unpaged, Paged}
 use Rattle.rules.proofs.Statements.Ways.{outerAt, innerAt, Keys, off-map, not-resident, not-writable, not-public, granted, exec-zero, faultEnding, Transfer, read, store}
-use Rattle.rules.proofs.Statements.Ways.{Begun, Unpaged, UnpagedThere, Paged, Asked, Granted, PagedThere, Windowed, InnerAsked, InnerGranted, InnerThere}
+use Rattle.rules.proofs.Statements.Ways.{UnpagedThere, Asked, Granted, PagedThere, Windowed, InnerAsked, InnerGranted, InnerThere}
 use Rattle.rules.proofs.Statements.Ways.{AtFault, odd, keys-refuse, nowhere, window-by-fetch, forbidden-word, inner-odd, inner-keys-refuse, inner-nowhere, window-on-window}
 use Rattle.rules.proofs.Statements.Ways.{Way, misshapen, late, status-stored, program-counter-stored, first-read, second-read, unpaged-odd, unpaged-nowhere, unpaged-window, unpaged-fetch, unpaged-transfer, violation, fetch, transfer, inner-transfer}
 use Rattle.rules.proofs.Statements.Ways.{access, interrupt-late, interrupt-taken, unlisted, trap-late, trap-taken, init, decided, Settled}

@@ -10,16 +10,16 @@ use borrow.Author.Tests.{ltb-true, ltb-false, eqb-true, eqb-false}
 use Rattle.rules.specs.Types.{Core, Cells, Unit, Access, Call, Operating, Associative, Register, Target, Part, Fault, Answer, Physical, Returned, Effect, Ran}
 use Rattle.rules.specs.Memory.{Memory, storeWord, storeByte}
 use Rattle.rules.specs.Unit.{withKept}
-use Rattle.rules.specs.Registers.{placeOf, partOf}
-use Rattle.rules.specs.Maps.{unpaged, unpagedAt}
+use Rattle.rules.specs.Registers.{partOf}
+use Rattle.rules.specs.Maps.{unpaged}
 use Rattle.rules.specs.Steps.{wellShaped, listed}
 use Rattle.rules.specs.Sequences.{flagged, faultData, violated, timedOut}
 use Rattle.rules.specs.Order.{outcome, operatingEffect, associativeEffect, memoryEffect, storedIn, storedAt}
 use Rattle.rules.specs.Calls.{mapsAfter, cellsAfter, memoryAfter, settled, callOf}
 use Rattle.rules.specs.Answers.{shownAs, faultShown, shown}
 use Rattle.rules.proofs.Laws.Choices.{picked}
-use Rattle.rules.proofs.Promises.{NumbersOfSteps, job, noTarget, Numbered, BareRefusals, MemoryUntouched, LengthKept, RefusedUnchanged, UnpagedTimeOut, UnpagedRefusal, Violation, PagedRefusal, AsForNine}
-use Rattle.rules.proofs.Statements.Ways.{ending, unchanged, timeOut, faultEnding, Transfer, read, store, Unpaged, AtFault}
+use Rattle.rules.proofs.Promises.{NumbersOfSteps, job, Numbered, BareRefusals, MemoryUntouched, LengthKept, RefusedUnchanged, UnpagedTimeOut, UnpagedRefusal, Violation, PagedRefusal, AsForNine, UnpagedNowhere}
+use Rattle.rules.proofs.Statements.Ways.{ending, unchanged, timeOut, faultEnding, Transfer, read, store, AtFault}
 use Rattle.rules.proofs.Statements.Ways.{Way, misshapen, late, status-stored, program-counter-stored, first-read, second-read, unpaged-odd, unpaged-nowhere, unpaged-window, unpaged-fetch, unpaged-transfer, violation, fetch, transfer, inner-transfer}
 use Rattle.rules.proofs.Statements.Ways.{Why, access, interrupt-late, interrupt-taken, unlisted, trap-late, trap-taken, init, Stored, nothing, word, byte, StoredOnly}
 use Rattle.rules.proofs.Demand1.Why.{why}
@@ -32,8 +32,7 @@ pub data Ended (m : Memory) (u : Unit) : Call → Ran → Type 0 where
       {c : Call} {a : Answer} {core : Core} {e : Effect} {k : Cells} → shown a .number ≡ 0 → Stored m c a (memoryAfter e m)
       → Ended m u c (ending a core e k)
   timed-out :
-      {q : Access} → Unpaged m u q → noTarget true (placeOf (u .cells .size) (length m) (unpagedAt (q .addr))) ≡ true
-      → Ended m u (Call.Access q) (timeOut u q)
+      {q : Access} → UnpagedNowhere m u q → Ended m u (Call.Access q) (timeOut u q)
   violated-at :
       {q : Access} {f : Fault} {window : Bool} {tag : ℕ} {k : Cells} → unpaged (u .core .ktcs .fcn) (q .state) ≡ false
       → AtFault m u q f window tag k
@@ -85,8 +84,8 @@ module _ {m : Memory} {u : Unit} where
   access-ended (first-read s e) = accepted refl nothing
   access-ended (second-read s e) = accepted refl nothing
   access-ended (unpaged-odd s t e) = as-it-was (lit< tt)
-  access-ended (unpaged-nowhere s e) = timed-out s (rw e)
-  access-ended (unpaged-window s e) = timed-out s (rw e)
+  access-ended (unpaged-nowhere s e) = timed-out (record { steps = s; nowhere = rw e })
+  access-ended (unpaged-window s e) = timed-out (record { steps = s; nowhere = rw e })
   access-ended (unpaged-fetch s t r) = accepted refl nothing
   access-ended (unpaged-transfer s e t) = transfer-ended (s .steps .steps .shaped) t
   access-ended (violation r) = violated-at (fault-paged r .mode) r
@@ -166,7 +165,7 @@ module _ {m : Memory} {u : Unit} where
   unfolding memoryAfter
   ended-stored (as-it-was h) = nothing
   ended-stored (accepted e s) = s
-  ended-stored (timed-out s n) = nothing
+  ended-stored (timed-out s) = nothing
   ended-stored (violated-at e s) = nothing
 
   ended-unchanged :
@@ -175,7 +174,7 @@ module _ {m : Memory} {u : Unit} where
   unfolding settled mapsAfter cellsAfter shown faultShown shownAs
   ended-unchanged (as-it-was h) n l = refl
   ended-unchanged (accepted e s) n l = absurd (n e)
-  ended-unchanged (timed-out s e) n l = absurd (omega arith)
+  ended-unchanged (timed-out s) n l = absurd (omega arith)
   ended-unchanged (violated-at {f} e s) n l = absurd (omega (arith, fault-number f .0))
 
   ended-unpaged :
@@ -184,7 +183,7 @@ module _ {m : Memory} {u : Unit} where
   unfolding settled mapsAfter cellsAfter shown faultShown shownAs timedOut withKept
   ended-unpaged (as-it-was h) t l = absurd (omega arith)
   ended-unpaged (accepted e s) t l = absurd (omega arith)
-  ended-unpaged {q} (timed-out s n) t l =
+  ended-unpaged {q} (timed-out s) t l =
       record {
         number = refl;
         core = refl;
@@ -204,7 +203,7 @@ module _ {m : Memory} {u : Unit} where
   unfolding settled mapsAfter cellsAfter
   ended-paged (as-it-was h) t l = absurd (omega arith)
   ended-paged (accepted e s) t l = absurd (omega arith)
-  ended-paged (timed-out s n) t l = absurd (true≢false (let e = s .mode in cc))
+  ended-paged (timed-out s) t l = absurd (true≢false (let e = s .steps .mode in cc))
   ended-paged {q} (violated-at {f} {window} {tag} {k} e s) t l =
       record {
         fault = f;

@@ -17,9 +17,9 @@ use Rattle.rules.specs.Order.{outcome, wordRead, windowAddr, storedIn, s
 use Rattle.rules.specs.Calls.{settled, callOf}
 use Rattle.rules.specs.Answers.{shownAs, shown}
 use Rattle.rules.proofs.Laws.Choices.{both-true, picked}
-use Rattle.rules.proofs.Promises.{job, outer, inner, pageNamed, outerPlace, innerPhysical, Test, test, firstOf, allPass, entryTests, noTarget, isWindow, unpagedTests, targetTests, outerTests, innerTests, pagedTests, testsOf, faultInside, tagAtFault, cellsLooked, ByTests, AnsweredInOrder}
+use Rattle.rules.proofs.Promises.{job, outer, inner, pageNamed, outerPlace, innerPhysical, Test, test, firstOf, allPass, entryTests, noTarget, isWindow, unpagedTests, targetTests, outerTests, innerTests, pagedTests, testsOf, faultInside, tagAtFault, cellsLooked, ByTests, AnsweredInOrder, Begun, Paged}
 use Rattle.rules.proofs.Statements.Ways.{outerAt, innerAt, Keys, off-map, not-resident, not-writable, not-public, granted, exec-zero, Transfer, read, store}
-use Rattle.rules.proofs.Statements.Ways.{Begun, UnpagedThere, Paged, Asked, Granted, PagedThere, Windowed, InnerGranted, InnerThere}
+use Rattle.rules.proofs.Statements.Ways.{UnpagedThere, Asked, Granted, PagedThere, Windowed, InnerGranted, InnerThere}
 use Rattle.rules.proofs.Statements.Ways.{AtFault, odd, keys-refuse, nowhere, window-by-fetch, forbidden-word, inner-odd, inner-keys-refuse, inner-nowhere, window-on-window}
 use Rattle.rules.proofs.Statements.Ways.{Way, misshapen, late, status-stored, program-counter-stored, first-read, second-read, unpaged-odd, unpaged-nowhere, unpaged-window, unpaged-fetch, unpaged-transfer, violation, fetch, transfer, inner-transfer}
 use Rattle.rules.proofs.Statements.Ways.{Why, access, interrupt-late, interrupt-taken, unlisted, trap-late, trap-taken, init}

@@ -19,8 +19,8 @@ use Rattle.rules.specs.Answers.{shownAs, faultShown, shown}
 use Rattle.rules.proofs.Laws.Choices.{picked}
 use Rattle.rules.proofs.Laws.CellsLaws.{found-has-tag, missing-has-none}
 use Rattle.rules.proofs.Laws.Pages.{tag-other}
-use Rattle.rules.proofs.Promises.{job, outer, inner, test, firstOf, entryTests, noTarget, innerPhysical, outerTests, testsOf, numberOf, GoesOn, RanOff, OuterRanOff, GoesInside, InnerRanOff, WalkRanOff, outer-walk, inner-walk, UnpagedNowhere, OuterNowhere, InnerNowhere, TargetNowhere, unpaged-target, outer-target, inner-target, TwoReasons}
-use Rattle.rules.proofs.Statements.Ways.{outerAt, innerAt, Keys, off-map, not-resident, not-writable, not-public, Begun, Paged, Granted, InnerAsked, InnerGranted, AtFault, keys-refuse, nowhere, window-by-fetch, inner-keys-refuse, inner-nowhere, window-on-window}
+use Rattle.rules.proofs.Promises.{job, outer, inner, test, firstOf, entryTests, noTarget, innerPhysical, outerTests, testsOf, numberOf, Paged, RanOff, OuterRanOff, GoesInside, InnerRanOff, WalkRanOff, outer-walk, inner-walk, UnpagedNowhere, OuterNowhere, InnerNowhere, TargetNowhere, unpaged-target, outer-target, inner-target, TwoReasons}
+use Rattle.rules.proofs.Statements.Ways.{outerAt, innerAt, Keys, off-map, not-resident, not-writable, not-public, Granted, InnerAsked, InnerGranted, AtFault, keys-refuse, nowhere, window-by-fetch, inner-keys-refuse, inner-nowhere, window-on-window}
 use Rattle.rules.proofs.Demand1.Why.{why}
 use Rattle.rules.proofs.Demand1.InOrder.{pass-first, keys-pass, keys-page, windowed-paged, inner-granted-paged, asked-first, inner-asked-first, outer-place, windowed-pass, begun-first, paged-first, answered-in-order}
 use Rattle.rules.proofs.Demand1.Kept.{step4-leaves}
@@ -77,9 +77,6 @@ keys-there (not-writable r l) n = omega arith
 keys-there (not-public r l h) n = omega arith
 
 module _ {m : Memory} {u : Unit} {q : Access} where
-  goes-on : Paged m u q → GoesOn m u q false
-  goes-on s = record { shaped = s .steps .shaped; due = s .steps .due; mode = s .mode }
-
   goes-inside : InnerAsked m u q → GoesInside m u q
   goes-inside s =
       record {
@@ -92,23 +89,23 @@ module _ {m : Memory} {u : Unit} {q : Access} where
   off-fault : {window : Bool} {tag : ℕ} {k : Cells} → AtFault m u q Fault.NoMapWord window tag k → WalkRanOff m u (Call.Access q)
   off-fault (keys-refuse s h) =
       let (z, o) = off-map-so m (u .maps) (job u q .core .ktcs .um) (pageOf (q .addr)) (u .cells) (keys-off h) in
-      outer-walk (goes-on (s .steps))
+      outer-walk (s .steps)
       (record { even = s .even; not-exec-zero = rw (sym (mode-stays u q)) z; ran-off = rw (sym (mode-stays u q)) o })
   off-fault (inner-keys-refuse s h) =
       let (_, o) = off-map-so m (u .maps) true (pageOf (windowAddr (job u q))) (outer m u q .cells) (keys-off h) in
-      inner-walk (goes-on (windowed-paged (s .steps))) (record { inside = goes-inside s; ran-off = rw (sym (window-address u q)) o })
+      inner-walk (windowed-paged (s .steps)) (record { inside = goes-inside s; ran-off = rw (sym (window-address u q)) o })
 
   outer-nowhere :
       {page : ℕ} → Granted m u q page → noTarget (isFetch q) (placeOf (u .cells .size) (length m) (outerAt q page)) ≡ true
       → TargetNowhere m u (Call.Access q)
   outer-nowhere s e =
-      outer-target (goes-on (s .steps .steps)) (record { even = s .steps .even; passes = keys-pass (s .keys); nowhere = rw (outer-place s) e })
+      outer-target (s .steps .steps) (record { even = s .steps .even; passes = keys-pass (s .keys); nowhere = rw (outer-place s) e })
 
   inner-target-nowhere :
       {page : ℕ} → InnerGranted m u q page → noTarget true (placeOf (u .cells .size) (length m) (innerAt u q page)) ≡ true
       → TargetNowhere m u (Call.Access q)
   inner-target-nowhere s e =
-      inner-target (goes-on (inner-granted-paged s))
+      inner-target (inner-granted-paged s)
       (record { inside = goes-inside (s .steps); passes = keys-pass (s .keys); nowhere = rw (keys-page (s .keys)) e })
 
   target-fault : {window : Bool} {tag : ℕ} {k : Cells} → AtFault m u q Fault.NoTarget window tag k → TargetNowhere m u (Call.Access q)
@@ -136,15 +133,14 @@ module _ {m : Memory} {u : Unit} where
   unfolding shown faultShown shownAs
   ended-ten (as-it-was h) n = absurd (omega arith)
   ended-ten (accepted z s) n = absurd (omega arith)
-  ended-ten (timed-out s e) n = absurd (omega arith)
+  ended-ten (timed-out s) n = absurd (omega arith)
   ended-ten (violated-at {f} e s) n = off-fault (rw (fault-told f .0 n) at s)
 
   ended-nine : {c : Call} {d : Ran} → Ended m u c d → shown (d .outcome .answer) .number ≡ 9 → TargetNowhere m u c
   unfolding shown
   ended-nine (as-it-was h) n = absurd (omega arith)
   ended-nine (accepted z s) n = absurd (omega arith)
-  ended-nine (timed-out s e) n =
-      unpaged-target (record { shaped = s .steps .shaped; due = s .steps .due; mode = s .mode }) (record { even = s .even; nowhere = e })
+  ended-nine (timed-out s) n = unpaged-target s
   ended-nine (violated-at {f} e s) n = target-fault (rw (fault-told f .1 n) at s)
 
 -- From the reason to the number ------------------------------------------------------------------------------------------
@@ -158,48 +154,42 @@ by-tests m u c f h = let s = answered-in-order m u c in rw (s .first ∙ h (s .p
 
 module _ {m : Memory} {u : Unit} where
   module _ {q : Access} where
-    began : {b : Bool} → GoesOn m u q b → Begun m u q
-    began g = record { shaped = g .shaped; due = g .due }
-
-    on-paged : GoesOn m u q false → Paged m u q
-    on-paged g = record { steps = began g; mode = g .mode }
-
-    outer-off-first : GoesOn m u q false → OuterRanOff m u q → (a : Answer) → firstOf (testsOf m u (Call.Access q)) a ≡ Answer.Fault Fault.NoMapWord
+    outer-off-first : Paged m u q → OuterRanOff m u q → (a : Answer) → firstOf (testsOf m u (Call.Access q)) a ≡ Answer.Fault Fault.NoMapWord
     unfolding pick
     outer-off-first g o a =
-        paged-first (on-paged g) a
-        ∙ asked-first (record { steps = on-paged g; even = o .even }) _
+        paged-first g a
+        ∙ asked-first (record { steps = g; even = o .even }) _
         ∙ rw (so-off-map m (u .maps) (job u q .core .ktcs .um) (pageOf (q .addr)) (u .cells) (rw (mode-stays u q) (o .not-exec-zero)) (rw (mode-stays u q) (o .ran-off)))
 
-    inner-first : GoesOn m u q false → GoesInside m u q → (a : Answer)
+    inner-first : Paged m u q → GoesInside m u q → (a : Answer)
         → firstOf (testsOf m u (Call.Access q)) a
         ≡ firstOf (entryTests (q .op) false (inner m u q .entry))
         (firstOf (test (noTarget true (placeOf (u .cells .size) (length m) (innerPhysical m u q))) (Answer.Fault Fault.NoTarget) ∷ []) a)
     unfolding pick
     inner-first g i a =
-        paged-first (on-paged g) a
+        paged-first g a
         ∙ pass-first (outerTests m u q) _ (i .passes)
         ∙ rw (i .window) (inner-asked-first m u q (rw (window-address u q) (i .even)) a)
 
-    inner-off-first : GoesOn m u q false → InnerRanOff m u q → (a : Answer) → firstOf (testsOf m u (Call.Access q)) a ≡ Answer.Fault Fault.NoMapWord
+    inner-off-first : Paged m u q → InnerRanOff m u q → (a : Answer) → firstOf (testsOf m u (Call.Access q)) a ≡ Answer.Fault Fault.NoMapWord
     unfolding pick execZero
     inner-off-first g o a =
         inner-first g (o .inside) a
         ∙ rw (so-off-map m (u .maps) true (pageOf (windowAddr (job u q))) (outer m u q .cells) refl (rw (window-address u q) (o .ran-off)))
 
-    unpaged-nowhere-first : GoesOn m u q true → UnpagedNowhere m u q → (a : Answer) → firstOf (testsOf m u (Call.Access q)) a ≡ Answer.Fault Fault.NoTarget
+    unpaged-nowhere-first : UnpagedNowhere m u q → (a : Answer) → firstOf (testsOf m u (Call.Access q)) a ≡ Answer.Fault Fault.NoTarget
     unfolding pick
-    unpaged-nowhere-first g n a = begun-first (began g) a ∙ rw (g .mode, n .even, n .nowhere)
+    unpaged-nowhere-first n a = begun-first (n .steps .steps) a ∙ rw (n .steps .mode, n .steps .even, n .nowhere)
 
-    outer-nowhere-first : GoesOn m u q false → OuterNowhere m u q → (a : Answer) → firstOf (testsOf m u (Call.Access q)) a ≡ Answer.Fault Fault.NoTarget
+    outer-nowhere-first : Paged m u q → OuterNowhere m u q → (a : Answer) → firstOf (testsOf m u (Call.Access q)) a ≡ Answer.Fault Fault.NoTarget
     unfolding pick
     outer-nowhere-first g n a =
-        paged-first (on-paged g) a
-        ∙ asked-first (record { steps = on-paged g; even = n .even }) _
+        paged-first g a
+        ∙ asked-first (record { steps = g; even = n .even }) _
         ∙ pass-first (entryTests (q .op) (watches (job u q .core .fetch) q) (outer m u q .entry)) _ (n .passes)
         ∙ rw (n .nowhere)
 
-    inner-nowhere-first : GoesOn m u q false → InnerNowhere m u q → (a : Answer) → firstOf (testsOf m u (Call.Access q)) a ≡ Answer.Fault Fault.NoTarget
+    inner-nowhere-first : Paged m u q → InnerNowhere m u q → (a : Answer) → firstOf (testsOf m u (Call.Access q)) a ≡ Answer.Fault Fault.NoTarget
     unfolding pick
     inner-nowhere-first g n a =
         inner-first g (n .inside) a ∙ pass-first (entryTests (q .op) false (inner m u q .entry)) _ (n .passes) ∙ rw (n .nowhere)
@@ -211,7 +201,7 @@ module _ {m : Memory} {u : Unit} where
 
   nowhere-nine : {c : Call} → TargetNowhere m u c → numberOf (callOf m u c) ≡ 9
   unfolding faultShown shownAs
-  nowhere-nine (unpaged-target g n) = by-tests m u _ Fault.NoTarget (unpaged-nowhere-first g n)
+  nowhere-nine (unpaged-target n) = by-tests m u _ Fault.NoTarget (unpaged-nowhere-first n)
   nowhere-nine (outer-target g n) = by-tests m u _ Fault.NoTarget (outer-nowhere-first g n)
   nowhere-nine (inner-target g n) = by-tests m u _ Fault.NoTarget (inner-nowhere-first g n)
 

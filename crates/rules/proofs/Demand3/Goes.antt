@@ -17,8 +17,8 @@ use Rattle.rules.specs.Order.{refused, faulted, outerFault, Source, at-h
 use Rattle.rules.specs.Calls.{called}
 use Rattle.rules.specs.Runs.{Visit, visit, visitsOf, deedIn, deedOf}
 use Rattle.rules.proofs.Laws.Choices.{true-is-not-false, picked}
-use Rattle.rules.proofs.Promises.{job, outer}
-use Rattle.rules.proofs.Statements.Ways.{outerAt, Keys, Paged, Asked, Granted, Windowed, InnerAsked}
+use Rattle.rules.proofs.Promises.{job, outer, Paged}
+use Rattle.rules.proofs.Statements.Ways.{outerAt, Keys, Asked, Granted, Windowed, InnerAsked}
 use Rattle.rules.proofs.Statements.PremiseWords.{GoesTo, no-page, one-page, two-pages, GoesBySteps}
 use Rattle.rules.proofs.Demand1.Determined.{keys-judged}
 use Rattle.rules.proofs.Demand1.Why.{judged-keys}

@@ -1,5 +1,5 @@
 -- The ranges that every call keeps of any unit, also of one that no run reaches: the counts are at most 2, and the counter names a cell.
-use Prim.Native.Nat.{ℕ, _-_, _≤_}
+use Prim.Native.Nat.{ℕ, _≤_}
 use mathlib.Core.Path.{_≡_, refl}
 use mathlib.Core.Bool.{Bool, _&&_}
 use native.Mathlib.Omega.{arith}

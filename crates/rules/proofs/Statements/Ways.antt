@@ -1,6 +1,6 @@
 -- The ways in which a call ends, in full: the tests that came out so and those passed before, with the answer, the core, the effect and the cells. The
 -- promises of demand 1 follow from it (Promises.antt), and what a page is forgotten by (PremiseWords.antt).
-use Prim.Native.Nat.{ℕ, _-_, _<_}
+use Prim.Native.Nat.{ℕ, _<_}
 use mathlib.Core.Bool.{Bool, true, false, not, _&&_}
 use mathlib.Core.Path.{_≡_}
 use mathlib.Core.Logic.{_≢_}
@@ -18,7 +18,7 @@ use Rattle.rules.specs.Program.{run}
 use Rattle.rules.specs.Order.{wordRead, storedAt, flagAfter, windowAddr}
 use Rattle.rules.specs.Calls.{called, settled, callOf}
 use Rattle.rules.specs.Answers.{shown}
-use Rattle.rules.proofs.Promises.{job, outer, inner, outerTag, innerTag}
+use Rattle.rules.proofs.Promises.{job, outer, inner, outerTag, innerTag, Begun, Unpaged, Paged}
 
 -- the physical address, once the steps have given its physical page
 abbrev pub outerAt : Access → ℕ → ℕ
@@ -84,32 +84,16 @@ pub data Transfer (m : Memory) (j : Job) (k : Cells) (at : ℕ) (t : Target) : R
   store : ltb (j .q .op) 2 ≡ false → Transfer m j k at t (record { outcome = storedAt j (partOf (j .q .op) at) at t; cells = k })
 
 module _ (m : Memory) (u : Unit) (q : Access) where
-  -- How far an access came. Each of these holds the one before it, and with that all earlier steps' tests ------------------
-
-  -- steps 1 and 2 passed
-  pub record Begun : Type 0 where
-    pub shaped : wellShaped (length m) q ≡ true
-    pub due : dueOf (u .core) q ≡ Due.Steps
-
-  -- unpaged, and step 3 passed
-  pub record Unpaged : Type 0 where
-    pub steps : Begun
-    pub mode : unpaged (u .core .ktcs .fcn) (q .state) ≡ true
-    pub even : oddWord (q .width) (q .addr) ≡ false
+  -- How far an access came, from `Unpaged` and `Paged` of Promises.antt on. Each holds the one before it, and with that all earlier steps' tests ---
 
   -- unpaged, and step 10 passed, with this target
   pub record UnpagedThere (t : Target) : Type 0 where
-    pub steps : Unpaged
+    pub steps : Unpaged m u q
     pub place : placeOf (u .cells .size) (length m) (unpagedAt (q .addr)) ≡ Place.There t
-
-  -- paged, which passes step 3
-  pub record Paged : Type 0 where
-    pub steps : Begun
-    pub mode : unpaged (u .core .ktcs .fcn) (q .state) ≡ false
 
   -- step 5 passed, and the page's entry is asked for
   pub record Asked : Type 0 where
-    pub steps : Paged
+    pub steps : Paged m u q
     pub even : oddWord (q .width) (q .addr) ≡ false
 
   -- steps 6 to 9 passed, and gave this physical page
@@ -148,7 +132,7 @@ module _ (m : Memory) (u : Unit) (q : Access) where
   -- left them. In 01's order.
   pub data AtFault : Fault → Bool → ℕ → Cells → Type 0 where
     -- "5. Paged odd word (4)."
-    odd : Paged → oddWord (q .width) (q .addr) ≡ true → AtFault Fault.OddAddress false (outerTag u q) (u .cells)
+    odd : Paged m u q → oddWord (q .width) (q .addr) ≡ true → AtFault Fault.OddAddress false (outerTag u q) (u .cells)
     -- "6. Walk (9).", where "10 takes 9's place" (T-01), "7. Residency (5). 8. Write key for operations 1-3 (6). 9. Privacy (7)."
     keys-refuse :
         {f : Fault} → Asked → Keys (q .op) (watches (job u q .core .fetch) q) (outer m u q .entry) (Ruling.Refused f)
@@ -198,12 +182,12 @@ module _ (m : Memory) (u : Unit) (q : Access) where
         → Way (taken u (getD (u .core .kept) ktps 0) (userStarted (u .core)))
     -- "3. Unpaged odd word (3)."
     unpaged-odd :
-        Begun → unpaged (u .core .ktcs .fcn) (q .state) ≡ true → oddWord (q .width) (q .addr) ≡ true → Way (unchanged u Answer.UnpagedOdd)
+        Begun m u q → unpaged (u .core .ktcs .fcn) (q .state) ≡ true → oddWord (q .width) (q .addr) ≡ true → Way (unchanged u Answer.UnpagedOdd)
     -- step 10, unpaged: nowhere, or the window, "Unpaged ..: time-out at step 10"
     unpaged-nowhere :
-        Unpaged → placeOf (u .cells .size) (length m) (unpagedAt (q .addr)) ≡ Place.Nowhere → Way (timeOut u q)
+        Unpaged m u q → placeOf (u .cells .size) (length m) (unpagedAt (q .addr)) ≡ Place.Nowhere → Way (timeOut u q)
     unpaged-window :
-        Unpaged → placeOf (u .cells .size) (length m) (unpagedAt (q .addr)) ≡ Place.Window → Way (timeOut u q)
+        Unpaged m u q → placeOf (u .cells .size) (length m) (unpagedAt (q .addr)) ≡ Place.Window → Way (timeOut u q)
     -- unpaged, all steps passed
     unpaged-fetch :
         {t : Target} {w : ℕ} → UnpagedThere t → isFetch q ≡ true
