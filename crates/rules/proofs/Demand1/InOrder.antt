@@ -6,7 +6,7 @@ use mathlib.Core.List.{List, [], _∷_, _++_}
 use native.Mathlib.Omega.{arith}
 use lib.ListN.{length}
 use borrow.Author.Tests.{not-true}
-use Rattle.rules.specs.Types.{Cells, Unit, Access, Call, Register, Target, Entry, Fault, Ruling, Answer, Job, Ran}
+use Rattle.rules.specs.Types.{Cells, Unit, Access, Call, Register, Target, Place, Entry, Fault, Ruling, Answer, Job, Ran}
 use Rattle.rules.specs.Choice.{pick}
 use Rattle.rules.specs.Memory.{Memory}
 use Rattle.rules.specs.Registers.{placeOf}
@@ -135,10 +135,6 @@ module _ {m : Memory} {u : Unit} {q : Access} where
   outer-fault (forbidden-word s t r e) a =
       granted-first (s .steps) a ∙ rw (keys-page (s .steps .keys), s .place, keys-page (s .steps .keys), t, r, e)
 
-  windowed-first : Windowed m u q → (a : Answer) → firstOf (outerTests m u q) a ≡ a
-  unfolding pick
-  windowed-first s a = granted-first (s .steps) a ∙ rw (outer-place (s .steps), s .place, s .no-fetch)
-
   pub windowed-pass : Windowed m u q → allPass (outerTests m u q) ≡ true
   unfolding pick
   windowed-pass s =
@@ -204,15 +200,20 @@ module _ {m : Memory} {u : Unit} {q : Access} where
   unfolding pick
   paged-first s a = begun-first (s .steps) a ∙ rw (s .mode) (first-append (outerTests m u q) _ a)
 
-  inner-first : Windowed m u q → (a : Answer) → firstOf (testsOf m u (Call.Access q)) a ≡ firstOf (innerTests m u q) a
+  pub inner-first :
+      Paged m u q → allPass (outerTests m u q) ≡ true → outerPlace m u q ≡ Place.Window → (a : Answer)
+      → firstOf (testsOf m u (Call.Access q)) a ≡ firstOf (innerTests m u q) a
   unfolding pick
-  inner-first s a = paged-first (windowed-paged s) a ∙ windowed-first s _ ∙ rw (outer-place (s .steps), s .place)
+  inner-first s p w a = paged-first s a ∙ pass-first (outerTests m u q) _ p ∙ rw w
+
+  windowed-first : Windowed m u q → (a : Answer) → firstOf (testsOf m u (Call.Access q)) a ≡ firstOf (innerTests m u q) a
+  windowed-first s a = inner-first (windowed-paged s) (windowed-pass s) (outer-place (s .steps) ∙ s .place) a
 
   fault-first :
       {f : Fault} {window : Bool} {tag : ℕ} {k : Cells} → AtFault m u q f window tag k → (a : Answer)
       → firstOf (testsOf m u (Call.Access q)) a ≡ Answer.Fault f
   fault-first {window = false} r a = paged-first (fault-paged r) a ∙ outer-fault r _
-  fault-first {window = true} r a = inner-first (fault-windowed r) a ∙ inner-fault r a
+  fault-first {window = true} r a = windowed-first (fault-windowed r) a ∙ inner-fault r a
 
   unpaged-there-first : {t : Target} → UnpagedThere m u q t → (a : Answer) → firstOf (testsOf m u (Call.Access q)) a ≡ a
   unfolding pick
@@ -233,7 +234,7 @@ module _ {m : Memory} {u : Unit} {q : Access} where
   inner-there-first : {page : ℕ} {t : Target} → InnerThere m u q page t → (a : Answer) → firstOf (testsOf m u (Call.Access q)) a ≡ a
   unfolding pick
   inner-there-first s a =
-      inner-first (s .steps .steps .steps) a ∙ inner-granted-first (s .steps) a ∙ rw (s .place)
+      windowed-first (s .steps .steps .steps) a ∙ inner-granted-first (s .steps) a ∙ rw (s .place)
 
 -- Every call -------------------------------------------------------------------------------------------------------------
 

@@ -3,7 +3,6 @@ use Prim.Native.Nat.{ℕ}
 use mathlib.Core.Bool.{Bool, true, false}
 use mathlib.Core.Path.{_≡_, refl, sym, _∙_}
 use mathlib.Core.Logic.{_≢_}
-use mathlib.Core.List.{[], _∷_}
 use native.Mathlib.Omega.{arith}
 use lib.ListN.{length, getD}
 use Rattle.rules.specs.Types.{Maps, Cells, Unit, Access, Call, Found, Walk, Entry, Looked, Fault, Ruling, Answer, Ran}
@@ -12,17 +11,17 @@ use Rattle.rules.specs.Memory.{Memory}
 use Rattle.rules.specs.Registers.{ktad, placeOf}
 use Rattle.rules.specs.Maps.{pageOf, execZero, execZeroEntry, walkOf, entryOf, tagOf, cellOf, missed, soughtIn, looked}
 use Rattle.rules.specs.Fetched.{isFetch}
-use Rattle.rules.specs.Steps.{watches}
+use Rattle.rules.specs.Steps.{oddWord, watches}
 use Rattle.rules.specs.Order.{windowAddr}
 use Rattle.rules.specs.Calls.{settled, callOf}
 use Rattle.rules.specs.Answers.{shownAs, faultShown, shown}
 use Rattle.rules.proofs.Laws.Choices.{picked}
 use Rattle.rules.proofs.Laws.CellsLaws.{found-has-tag, missing-has-none}
 use Rattle.rules.proofs.Laws.Pages.{tag-other}
-use Rattle.rules.proofs.Promises.{job, outer, inner, test, firstOf, entryTests, noTarget, innerPhysical, outerTests, testsOf, numberOf, Paged, RanOff, OuterRanOff, GoesInside, InnerRanOff, WalkRanOff, outer-walk, inner-walk, UnpagedNowhere, OuterNowhere, InnerNowhere, TargetNowhere, unpaged-target, outer-target, inner-target, TwoReasons}
+use Rattle.rules.proofs.Promises.{job, outer, inner, firstOf, entryTests, noTarget, testsOf, numberOf, Paged, RanOff, OuterRanOff, GoesInside, InnerRanOff, WalkRanOff, outer-walk, inner-walk, UnpagedNowhere, OuterNowhere, InnerNowhere, TargetNowhere, unpaged-target, outer-target, inner-target, TwoReasons}
 use Rattle.rules.proofs.Statements.Ways.{outerAt, innerAt, Keys, off-map, not-resident, not-writable, not-public, Granted, InnerAsked, InnerGranted, AtFault, keys-refuse, nowhere, window-by-fetch, inner-keys-refuse, inner-nowhere, window-on-window}
 use Rattle.rules.proofs.Demand1.Why.{why}
-use Rattle.rules.proofs.Demand1.InOrder.{pass-first, keys-pass, keys-page, windowed-paged, inner-granted-paged, asked-first, inner-asked-first, outer-place, windowed-pass, begun-first, paged-first, answered-in-order}
+use Rattle.rules.proofs.Demand1.InOrder.{pass-first, inner-first, keys-pass, keys-page, windowed-paged, inner-granted-paged, asked-first, inner-asked-first, outer-place, windowed-pass, begun-first, paged-first, answered-in-order}
 use Rattle.rules.proofs.Demand1.Kept.{step4-leaves}
 use Rattle.rules.proofs.Demand1.Ended.{Ended, as-it-was, accepted, timed-out, violated-at, ended}
 
@@ -145,43 +144,39 @@ module _ {m : Memory} {u : Unit} where
 
 -- From the reason to the number ------------------------------------------------------------------------------------------
 
--- a fault that the tests come to, whatever is answered where all pass, gives the number
-by-tests :
-    (m : Memory) (u : Unit) (c : Call) (f : Fault) → ((a : Answer) → firstOf (testsOf m u c) a ≡ Answer.Fault f)
-    → numberOf (callOf m u c) ≡ faultShown f .number
-unfolding shown
-by-tests m u c f h = let s = answered-in-order m u c in rw (s .first ∙ h (s .passed))
+module _ (m : Memory) (u : Unit) (c : Call) (f : Fault) where
+  -- the tests come to a fault, whatever is answered where all pass
+  abbrev ComesTo : Type 0
+  ComesTo = (a : Answer) → firstOf (testsOf m u c) a ≡ Answer.Fault f
+
+  by-tests : ComesTo → numberOf (callOf m u c) ≡ faultShown f .number
+  unfolding shown
+  by-tests h = let s = answered-in-order m u c in rw (s .first ∙ h (s .passed))
 
 module _ {m : Memory} {u : Unit} where
   module _ {q : Access} where
-    outer-off-first : Paged m u q → OuterRanOff m u q → (a : Answer) → firstOf (testsOf m u (Call.Access q)) a ≡ Answer.Fault Fault.NoMapWord
+    outer-off-first : Paged m u q → OuterRanOff m u q → ComesTo m u (Call.Access q) Fault.NoMapWord
     unfolding pick
     outer-off-first g o a =
         paged-first g a
         ∙ asked-first (record { steps = g; even = o .even }) _
         ∙ rw (so-off-map m (u .maps) (job u q .core .ktcs .um) (pageOf (q .addr)) (u .cells) (rw (mode-stays u q) (o .not-exec-zero)) (rw (mode-stays u q) (o .ran-off)))
 
-    inner-first : Paged m u q → GoesInside m u q → (a : Answer)
-        → firstOf (testsOf m u (Call.Access q)) a
-        ≡ firstOf (entryTests (q .op) false (inner m u q .entry))
-        (firstOf (test (noTarget true (placeOf (u .cells .size) (length m) (innerPhysical m u q))) (Answer.Fault Fault.NoTarget) ∷ []) a)
-    unfolding pick
-    inner-first g i a =
-        paged-first g a
-        ∙ pass-first (outerTests m u q) _ (i .passes)
-        ∙ rw (i .window) (inner-asked-first m u q (rw (window-address u q) (i .even)) a)
+    inside-even : GoesInside m u q → oddWord (q .width) (windowAddr (job u q)) ≡ false
+    inside-even i = rw (window-address u q) (i .even)
 
-    inner-off-first : Paged m u q → InnerRanOff m u q → (a : Answer) → firstOf (testsOf m u (Call.Access q)) a ≡ Answer.Fault Fault.NoMapWord
+    inner-off-first : Paged m u q → InnerRanOff m u q → ComesTo m u (Call.Access q) Fault.NoMapWord
     unfolding pick execZero
     inner-off-first g o a =
-        inner-first g (o .inside) a
+        inner-first g (o .inside .passes) (o .inside .window) a
+        ∙ inner-asked-first m u q (inside-even (o .inside)) a
         ∙ rw (so-off-map m (u .maps) true (pageOf (windowAddr (job u q))) (outer m u q .cells) refl (rw (window-address u q) (o .ran-off)))
 
-    unpaged-nowhere-first : UnpagedNowhere m u q → (a : Answer) → firstOf (testsOf m u (Call.Access q)) a ≡ Answer.Fault Fault.NoTarget
+    unpaged-nowhere-first : UnpagedNowhere m u q → ComesTo m u (Call.Access q) Fault.NoTarget
     unfolding pick
     unpaged-nowhere-first n a = begun-first (n .steps .steps) a ∙ rw (n .steps .mode, n .steps .even, n .nowhere)
 
-    outer-nowhere-first : Paged m u q → OuterNowhere m u q → (a : Answer) → firstOf (testsOf m u (Call.Access q)) a ≡ Answer.Fault Fault.NoTarget
+    outer-nowhere-first : Paged m u q → OuterNowhere m u q → ComesTo m u (Call.Access q) Fault.NoTarget
     unfolding pick
     outer-nowhere-first g n a =
         paged-first g a
@@ -189,10 +184,13 @@ module _ {m : Memory} {u : Unit} where
         ∙ pass-first (entryTests (q .op) (watches (job u q .core .fetch) q) (outer m u q .entry)) _ (n .passes)
         ∙ rw (n .nowhere)
 
-    inner-nowhere-first : Paged m u q → InnerNowhere m u q → (a : Answer) → firstOf (testsOf m u (Call.Access q)) a ≡ Answer.Fault Fault.NoTarget
+    inner-nowhere-first : Paged m u q → InnerNowhere m u q → ComesTo m u (Call.Access q) Fault.NoTarget
     unfolding pick
     inner-nowhere-first g n a =
-        inner-first g (n .inside) a ∙ pass-first (entryTests (q .op) false (inner m u q .entry)) _ (n .passes) ∙ rw (n .nowhere)
+        inner-first g (n .inside .passes) (n .inside .window) a
+        ∙ inner-asked-first m u q (inside-even (n .inside)) a
+        ∙ pass-first (entryTests (q .op) false (inner m u q .entry)) _ (n .passes)
+        ∙ rw (n .nowhere)
 
   off-ten : {c : Call} → WalkRanOff m u c → numberOf (callOf m u c) ≡ 10
   unfolding faultShown shownAs
