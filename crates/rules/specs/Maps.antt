@@ -66,7 +66,7 @@ unfoldable pub pointedAt : ℕ → ℕ
 pointedAt w = upperAt (low9 w) (high7 w)
 
 -- A walk that reads the word at this address: "A map word or pointer at or beyond L is a time-out.", and "The walk itself should report that it ran
--- off memory" (T-01). No map word is read from a register: these stand beyond L.
+-- off memory" (T-01). No map word is read from a register: these stand beyond every L that 01 allows.
 unfoldable pub unlessOff : Memory → ℕ → Walk → Walk
 unlessOff m at w = pick (ltb at (length m)) w Walk.Off
 
