@@ -3,7 +3,7 @@
 ghost use mathlib.Core.Path.{_≡_};
 ghost use Prim.Native.Nat.{_<_};
 ghost use Rattle.rules.specs.Maps.{unpaged, unpagedAt, pageOf, physicalAt, residentBit, publicBit, writeBit};
-ghost use Rattle.rules.specs.Maps.{low9, high7, simpleCount, simple, upperAt, lowerAt, pointedAt, execZero, tagOf};
+ghost use Rattle.rules.specs.Maps.{low9, high7, simple, upperAt, lowerAt, pointedAt, execZero, tagOf};
 
 // Addresses ------------------------------------------------------------------------------------------------------------
 
@@ -71,26 +71,18 @@ pub fn low9(w: u16) -> u16
     w % 512
 }
 
-// The count of a map register (N), or the entry that a pointer names (n).
+// The last simple page of a map register (N), or the entry that a pointer names (n).
 pub fn high7(w: u16) -> u8
     ensures { λ r. ⌜ (r ≡ high7 w) × (r < 128) ⌝ }
 {
     (w / 512 % 128) as u8
 }
 
-// "N=0 counts as 128"
-fn simple_count(register: u16) -> u8
-    ensures { λ r. ⌜ r ≡ simpleCount register ⌝ }
-{
-    let count = high7(register);
-    if count == 0 { 128 } else { count }
-}
-
-// "pages below N are simple (source 3.3.2.2)": the one boundary of both maps
+// "pages 0 to N are simple" (T-02; source 4.2.2.1): the one boundary of both maps
 pub fn simple(register: u16, p: u8) -> bool
     ensures { λ r. ⌜ r ≡ simple register p ⌝ }
 {
-    p < simple_count(register)
+    p <= high7(register)
 }
 
 // "512·M(KTEM)+256+2p", "512·M(KTUM)+256+2p", "512·m+256+2n": the upper half of a map page has the simple words and the pointers.

@@ -2,7 +2,7 @@
 use Prim.Native.Nat.{ℕ, _+_, _-_, _*_, _/_, _%_}
 use mathlib.Core.Bool.{Bool, not, _&&_, _||_}
 use mathlib.Core.List.{List, [], _∷_, map}
-use lib.Dec.{eqb, ltb}
+use lib.Dec.{eqb, ltb, leb}
 use lib.ListN.{length, getD, set}
 use Rattle.rules.specs.Types.{Maps, Cell, Cells, Found, Reads, Walk, Entry, Looked}
 use Rattle.rules.specs.Choice.{pick}
@@ -45,13 +45,11 @@ publicBit w = bitIn w 0o40000
 unfoldable pub writeBit : ℕ → Bool
 writeBit w = bitIn w 0o20000
 
--- "N=0 counts as 128": how many pages a map register calls simple. Both maps and all callers go by `simple`, which is the one boundary.
-unfoldable pub simpleCount : ℕ → ℕ
-simpleCount r = pick (eqb (high7 r) 0) 128 (high7 r)
-
--- "pages below N are simple (source 3.3.2.2)"
+-- "So pages 0 to N are simple, N=0 means one page, and N=127 means all." (T-02) N is the number of the last simple page, as LNE is in source 4.2.2.1:
+-- "Exec address 0 through 1000₈ * LNE + 777 are in Exec simple space". Source 3.3.2.2, "the first N entries", does not decide here. Exec pages go by
+-- KTEM's N and user pages by KTUM's; this is the one boundary of both.
 unfoldable pub simple : ℕ → ℕ → Bool
-simple r p = ltb p (simpleCount r)
+simple r p = leb p (high7 r)
 
 -- the word of page or entry p in the upper half of a physical page: "512·M(KTEM)+256+2p", "512·M(KTUM)+256+2p", "512·m+256+2n"
 unfoldable pub upperAt : ℕ → ℕ → ℕ

@@ -2,6 +2,7 @@
 pub mod Opened
 pub mod Units
 pub mod Starred
+pub mod Dec52
 pub mod WithTwentyFour
 pub mod Worked
 pub mod Premises

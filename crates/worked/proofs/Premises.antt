@@ -54,9 +54,9 @@ memory =
     ∷ W 0o001776 0o160777 ∷ W 0o002000 0o111 ∷ W 0o003000 0o222 ∷ W 0o003402 0o160003 ∷ W 0o003412 0o160003 ∷ W 0o003404 0o003001 ∷ [])
     (replicate 2048 0)
 
--- KTEM 000001 and FCN 2
+-- KTEM 177001 and FCN 2
 abbrev pub pagingOn : List Call
-pagingOn = A 2 1 0 0o177616 0o000001 ∷ A 2 1 0 0o177576 0o000002 ∷ []
+pagingOn = A 2 1 0 0o177616 0o177001 ∷ A 2 1 0 0o177576 0o000002 ∷ []
 
 -- the exec reads the first word of its page p
 abbrev pub readPage : ℕ → Call
@@ -80,16 +80,16 @@ twoMoved = nineRead ++ (movePage 1 ∷ movePage 2 ∷ [])
 abbrev pub oneFaulted : List Call
 oneFaulted = twoMoved ++ (A 0 1 0 0o002001 0 ∷ A 2 4 0 0 0 ∷ A 2 4 0 0 0 ∷ [])
 
--- Page 2 is read. By page 127, which is the registers', KTEM takes 000003, and pages 1 and 5 are read, of which a cell held the latter.
+-- Page 2 is read. By page 127, which is the registers', KTEM takes 177003, and pages 1 and 5 are read, of which a cell held the latter.
 abbrev pub allForgotten : List Call
-allForgotten = oneFaulted ++ (readPage 2 ∷ A 2 1 0 0o177616 0o000003 ∷ readPage 1 ∷ readPage 5 ∷ [])
+allForgotten = oneFaulted ++ (readPage 2 ∷ A 2 1 0 0o177616 0o177003 ∷ readPage 1 ∷ readPage 5 ∷ [])
 
--- A user's page by the window, with KTUM 001003, by which only the user's page 0 is simple: KTAD takes the page's address, and the window is read.
+-- A user's page by the window, with KTUM 000003, by which only the user's page 0 is simple: KTAD takes the page's address, and the window is read.
 abbrev pub throughWindow : ℕ → List Call
 throughWindow a = A 2 1 0 0o177610 a ∷ A 0 1 0 0o177572 0 ∷ []
 
 abbrev pub sharedRead : List Call
-sharedRead = A 2 1 0 0o177614 0o001003 ∷ pagingOn ++ throughWindow 0o002000
+sharedRead = A 2 1 0 0o177614 0o000003 ∷ pagingOn ++ throughWindow 0o002000
 
 -- The map word that the pointer leads to is stored into, as that of the exec's page 3.
 abbrev pub sharedMoved : List Call
@@ -180,13 +180,13 @@ beforeHost = pagingOn ++ (readPage 1 ∷ [])
 abbrev pub hostChanged : Memory
 hostChanged = storeWord (stationAfter memory eight beforeHost .memory) 0o001402 0o160003
 
--- KTEM 000001 and FCN 1, in which EXECUTE is paged and SOURCE is not; then nine pages are read, by EXECUTE
+-- KTEM 177001 and FCN 1, in which EXECUTE is paged and SOURCE is not; then nine pages are read, by EXECUTE
 abbrev pub executePage : ℕ → Call
 executePage p = A 0 3 0 (512 * p) 0
 
 abbrev pub nineByExecute : List Call
 nineByExecute =
-    A 2 1 0 0o177616 0o000001 ∷ A 2 1 0 0o177576 0o000001 ∷ map executePage (1 ∷ 2 ∷ 3 ∷ 4 ∷ 5 ∷ 6 ∷ 7 ∷ 8 ∷ 9 ∷ [])
+    A 2 1 0 0o177616 0o177001 ∷ A 2 1 0 0o177576 0o000001 ∷ map executePage (1 ∷ 2 ∷ 3 ∷ 4 ∷ 5 ∷ 6 ∷ 7 ∷ 8 ∷ 9 ∷ [])
 
 -- A unit with 24 cells holds the ninth page in cell 8. Its scratchpad word, at 777640o, is stored into, and the page is read again.
 abbrev pub ninthStoredRun : List Call

@@ -1,4 +1,5 @@
--- The numbers that document 01 marks *, a row each of one table, proved once of the definitions by computation.
+-- The numbers that document 01 marks *, those at the boundary as T-02 changes them ("with N=4, page 4 is simple and page 5 is the first beyond"), a row each
+-- of one table, proved once of the definitions by computation.
 use Prim.Native.Nat.{ℕ}
 use mathlib.Core.Path.{_≡_, refl}
 use mathlib.Core.Bool.{true, false}
@@ -31,25 +32,29 @@ numberAt m a = shown (answerTo m (record { op = 0; state = 1; width = 0; addr = 
 abbrev pub maps : Maps
 maps = record { ktum = 0o004005; ktem = 0o004001 }
 
--- the cells after the exec's pages of a list were looked for, with KTEM's map page, the second page of this memory, all zero
+-- the cells after the exec's pages of a list were looked for, all of them simple, with KTEM's map page, the second page of this memory, all zero
 abbrev pub lookedFor : List ℕ → Cells → Cells
 lookedFor [] k = k
-lookedFor (p ∷ ps) k = lookedFor ps (looked (replicate 1024 0) (record { ktum = 0; ktem = 1 }) false p k .cells)
+lookedFor (p ∷ ps) k = lookedFor ps (looked (replicate 1024 0) (record { ktum = 0; ktem = 0o177001 }) false p k .cells)
 
 pub record Starred : Type 0 where
   -- "KTUM 004005o (N=4)"
   pub n-of-ktum : high7 0o004005 ≡ 4
   -- "user page 3 word at 005406o"
   pub user-3 : (m : Memory) → walkOf m maps true 3 ≡ wordWalk m 0o005406
-  -- "page 4 pointer at 005410o"
-  pub user-4 : (m : Memory) → walkOf m maps true 4 ≡ pointerWalk m 0o005410
+  -- T-02: page 4 word at 005410o, where 01 had a pointer
+  pub user-4 : (m : Memory) → walkOf m maps true 4 ≡ wordWalk m 0o005410
+  -- T-02: page 5 pointer at 005412o
+  pub user-5 : (m : Memory) → walkOf m maps true 5 ≡ pointerWalk m 0o005412
   -- "pointer 003007o leads to 007406o"
   pub pointer : pointedAt 0o003007 ≡ 0o007406
   -- "KTEM N=4, M=1: exec page 3 at 001406o"
   pub n-of-ktem : high7 0o004001 ≡ 4
   pub exec-3 : (m : Memory) → walkOf m maps false 3 ≡ wordWalk m 0o001406
-  -- "exec page 4, with the KTUM above, at 005010o"
-  pub exec-4 : (m : Memory) → walkOf m maps false 4 ≡ wordWalk m 0o005010
+  -- T-02: exec page 4 at 001410o, where 01 had 005010o by KTUM
+  pub exec-4 : (m : Memory) → walkOf m maps false 4 ≡ wordWalk m 0o001410
+  -- T-02: exec page 5, with the KTUM above, at 005012o
+  pub exec-5 : (m : Memory) → walkOf m maps false 5 ≡ wordWalk m 0o005012
   -- "KTEM M=1: exec 000777o is 001777o"
   pub zero-page : (m : Memory) (k : Cells) → looked m maps false (pageOf 0o000777) k .entry ≡ Entry.ExecZero 1
   pub zero-byte : physicalAt 1 0o000777 ≡ 0o001777
@@ -75,10 +80,12 @@ starred =
       n-of-ktum = refl;
       user-3 = λ m. refl;
       user-4 = λ m. refl;
+      user-5 = λ m. refl;
       pointer = refl;
       n-of-ktem = refl;
       exec-3 = λ m. refl;
       exec-4 = λ m. refl;
+      exec-5 = λ m. refl;
       zero-page = λ m k. refl;
       zero-byte = refl;
       one-walked = λ m. refl;

@@ -95,15 +95,15 @@ twoMaps half =
     (W (0o002002 + half) 0o160004 ∷ W (0o002376 + half) 0o160777 ∷ W (0o003002 + half) 0o160005 ∷ W (0o003376 + half) 0o160777 ∷ W 0o004000 0o111 ∷ W 0o005000 0o222 ∷ [])
     (replicate 3072 0)
 
--- Only the exec's page 0 is simple, so that its other pages go by KTUM, and by the lower half of its map: KTEM 001001, KTUM 000002 and FCN 2.
+-- Only the exec's page 0 is simple, so that its other pages go by KTUM, and by the lower half of its map: KTEM 000001, KTUM 000002 and FCN 2.
 -- Page 1 is read, KTUM takes 000003, and page 1 is read again.
 abbrev pub ktumChanged : List Call
 ktumChanged =
-    A 2 1 0 0o177616 0o001001 ∷ A 2 1 0 0o177614 0o000002 ∷ A 2 1 0 0o177576 2 ∷ readPage 1 ∷ A 2 1 0 0o177614 0o000003 ∷ readPage 1 ∷ []
+    A 2 1 0 0o177616 0o000001 ∷ A 2 1 0 0o177614 0o000002 ∷ A 2 1 0 0o177576 2 ∷ readPage 1 ∷ A 2 1 0 0o177614 0o000003 ∷ readPage 1 ∷ []
 
--- All of the exec's pages are simple, by the upper half: KTEM 000002 and FCN 2. Page 1 is read, KTEM takes 000003, and page 1 is read again.
+-- All of the exec's pages are simple, by the upper half: KTEM 177002 and FCN 2. Page 1 is read, KTEM takes 177003, and page 1 is read again.
 abbrev pub ktemChanged : List Call
-ktemChanged = A 2 1 0 0o177616 0o000002 ∷ A 2 1 0 0o177576 2 ∷ readPage 1 ∷ A 2 1 0 0o177616 0o000003 ∷ readPage 1 ∷ []
+ktemChanged = A 2 1 0 0o177616 0o177002 ∷ A 2 1 0 0o177576 2 ∷ readPage 1 ∷ A 2 1 0 0o177616 0o177003 ∷ readPage 1 ∷ []
 
 pub record OneDiffers : Type 0 where
   pub met : meets (twoMaps 0) eight noneInUse ktumChanged ≡ true
@@ -134,7 +134,7 @@ one-differs =
 -- as the run of KTUM above, but its low byte takes 003
 abbrev pub byteChanged : List Call
 byteChanged =
-    A 2 1 0 0o177616 0o001001 ∷ A 2 1 0 0o177614 0o000002 ∷ A 2 1 0 0o177576 2 ∷ readPage 1 ∷ A 3 1 1 0o177614 0o000003 ∷ readPage 1 ∷ []
+    A 2 1 0 0o177616 0o000001 ∷ A 2 1 0 0o177614 0o000002 ∷ A 2 1 0 0o177576 2 ∷ readPage 1 ∷ A 3 1 1 0o177614 0o000003 ∷ readPage 1 ∷ []
 
 pub record WordsOnlyDiffers : Type 0 where
   pub met : meets (twoMaps 0) eight noneInUse byteChanged ≡ true

@@ -70,10 +70,10 @@ abbrev pub smallMemory : Memory
 smallMemory =
     storeWord (storeWord (storeWord (replicate 4096 0) 0o001776 0o160777) 0o002400 0o160003) 0o002402 0o020004
 
--- KTEM 000001, KTUM 000002, KTPC 000100, KTPS 000340, FCN 3 and the two START reads: a user is started.
+-- KTEM 177001, KTUM 177002, KTPC 000100, KTPS 000340, FCN 3 and the two START reads: a user is started.
 abbrev pub startUser : List Call
 startUser =
-    A 2 1 0 0o177616 0o000001 ∷ A 2 1 0 0o177614 0o000002 ∷ A 2 1 0 0o177604 0o000100 ∷ A 2 1 0 0o177606 0o000340 ∷ A 2 1 0 0o177576 3 ∷ A 0 1 0 0 0 ∷ A 0 1 0 0 0 ∷ []
+    A 2 1 0 0o177616 0o177001 ∷ A 2 1 0 0o177614 0o177002 ∷ A 2 1 0 0o177604 0o000100 ∷ A 2 1 0 0o177606 0o000340 ∷ A 2 1 0 0o177576 3 ∷ A 0 1 0 0 0 ∷ A 0 1 0 0 0 ∷ []
 
 -- KTCS is FCN 3 before the reads and UM with FCN 2, 22o, after them. The reads give KTPC and KTPS, with no physical address.
 pub a-user-starts :
@@ -113,9 +113,9 @@ a-window-faults-within = refl
 abbrev pub tagsAfter : List Call → List ℕ
 tagsAfter cs = map tagIn (there (stationAfter smallMemory eight cs .unit .cells))
 
--- KTEM 000001, FCN 2, and KTIC read through the exec's last page, 177o, which fills the first cell
+-- KTEM 177001, FCN 2, and KTIC read through the exec's last page, 177o, which fills the first cell
 abbrev pub oneCell : List Call
-oneCell = A 2 1 0 0o177616 0o000001 ∷ A 2 1 0 0o177576 2 ∷ A 0 1 0 0o177600 0 ∷ []
+oneCell = A 2 1 0 0o177616 0o177001 ∷ A 2 1 0 0o177576 2 ∷ A 0 1 0 0o177600 0 ∷ []
 
 -- "A store into KTUM or KTEM, byte or word, empties all cells", and so does a violation the cell of its page, which the walk had just filled.
 pub record Emptied : Type 0 where

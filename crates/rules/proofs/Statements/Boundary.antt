@@ -1,0 +1,80 @@
+-- Where the simple pages end (T-02): "pages 0 to N are simple, N=0 means one page, and N=127 means all", N the high 7 bits of a map register; and what
+-- a walk reads on either side of that boundary, with the places written out.
+use Prim.Native.Nat.{ℕ, _+_, _*_, _≤_, _<_}
+use native.Mathlib.Omega.{arith}
+use mathlib.Core.Path.{_≡_, refl}
+use mathlib.Core.Logic.{_↔_}
+use mathlib.Core.Bool.{true, false}
+use borrow.Author.Tests.{leb-true, le-leb, lt-leb}
+use Rattle.rules.specs.Types.{Maps}
+use Rattle.rules.specs.Choice.{pick}
+use Rattle.rules.specs.Memory.{Memory}
+use Rattle.rules.specs.Maps.{low9, high7, simple, upperAt, lowerAt, pointedAt, wordWalk, pointerWalk, execWalk, userWalk, walkOf}
+use Rattle.rules.proofs.Laws.Choices.{pick-true, pick-false}
+
+-- of every map register and page
+pub record Boundary : Type 0 where
+  -- "pages 0 to N are simple", and no other
+  pub up-to : (r p : ℕ) → (simple r p ≡ true) ↔ (p ≤ high7 r)
+  -- "N=0 means one page", page 0
+  pub one : (r p : ℕ) → high7 r ≡ 0 → (simple r p ≡ true) ↔ (p ≡ 0)
+  -- "N=127 means all"
+  pub all : (r p : ℕ) → high7 r ≡ 127 → p < 128 → simple r p ≡ true
+  -- N is the last simple page, and the next is the first beyond
+  pub first-beyond : (r : ℕ) → (simple r (high7 r) ≡ true) × (simple r (high7 r + 1) ≡ false)
+  -- "with N=4, page 4 is simple and page 5 is the first beyond": KTUM 004005o
+  pub with-four : (simple 0o004005 4 ≡ true) × (simple 0o004005 5 ≡ false)
+
+-- of every memory, map registers and page, exec page 0 apart, which is never walked
+pub record WalksByBoundary : Type 0 where
+  -- exec pages go by KTEM's N: up to it the map word is at 512·M(KTEM)+256+2p, beyond it at 512·M(KTUM)+2p
+  pub exec-simple :
+      (m : Memory) (r : Maps) (p : ℕ) → p ≤ high7 (r .ktem) → walkOf m r false p ≡ wordWalk m (512 * low9 (r .ktem) + 256 + 2 * p)
+  pub exec-per-process :
+      (m : Memory) (r : Maps) (p : ℕ) → high7 (r .ktem) < p → walkOf m r false p ≡ wordWalk m (512 * low9 (r .ktum) + 2 * p)
+  -- user pages go by KTUM's N: the word at 512·M(KTUM)+256+2p is the map word up to it, and a pointer beyond
+  pub user-simple :
+      (m : Memory) (r : Maps) (p : ℕ) → p ≤ high7 (r .ktum) → walkOf m r true p ≡ wordWalk m (512 * low9 (r .ktum) + 256 + 2 * p)
+  pub user-shared :
+      (m : Memory) (r : Maps) (p : ℕ) → high7 (r .ktum) < p → walkOf m r true p ≡ pointerWalk m (512 * low9 (r .ktum) + 256 + 2 * p)
+  -- a pointer's high 7 bits are an entry's number and no boundary: "the map word is at 512·m+256+2n"
+  pub pointer : (w : ℕ) → pointedAt w ≡ 512 * low9 w + 256 + 2 * high7 w
+
+-- Proofs -----------------------------------------------------------------------------------------------------------------
+
+with-four : (simple 0o004005 4 ≡ true) × (simple 0o004005 5 ≡ false)
+unfolding simple high7
+with-four = (refl, refl)
+
+simple-to : (r p : ℕ) → p ≤ high7 r → simple r p ≡ true
+unfolding simple
+simple-to r p h = le-leb _ _ h
+
+beyond : (r p : ℕ) → high7 r < p → simple r p ≡ false
+unfolding simple
+beyond r p h = lt-leb _ _ h
+
+simple-at-most : (r p : ℕ) → simple r p ≡ true → p ≤ high7 r
+unfolding simple
+simple-at-most r p e = leb-true _ _ e
+
+pub boundary : Boundary
+boundary =
+    record {
+      up-to = λ r p. (simple-at-most r p, simple-to r p);
+      one = λ r p none. ((λ e. let h = simple-at-most r p e in omega arith), (λ z. simple-to r p (omega arith)));
+      all = λ r p n h. simple-to r p (omega arith);
+      first-beyond = λ r. (simple-to r (high7 r) (omega arith), beyond r (high7 r + 1) (omega arith));
+      with-four = with-four;
+    }
+
+pub walks-by-boundary : WalksByBoundary
+unfolding pick walkOf execWalk userWalk upperAt lowerAt pointedAt
+walks-by-boundary =
+    record {
+      exec-simple = λ m r p h. pick-true (simple (r .ktem) p) _ _ (simple-to (r .ktem) p h);
+      exec-per-process = λ m r p h. pick-false (simple (r .ktem) p) _ _ (beyond (r .ktem) p h);
+      user-simple = λ m r p h. pick-true (simple (r .ktum) p) _ _ (simple-to (r .ktum) p h);
+      user-shared = λ m r p h. pick-false (simple (r .ktum) p) _ _ (beyond (r .ktum) p h);
+      pointer = λ w. refl;
+    }
