@@ -12,7 +12,7 @@ use Rattle.rules.specs.Types.{Maps, Reads, Walk}
 use Rattle.rules.specs.Choice.{pick}
 use Rattle.rules.specs.Memory.{Memory, byteAt, wordAt, evenOf, storeWord, storeByte}
 use Rattle.rules.specs.Registers.{among}
-use Rattle.rules.specs.Maps.{low9, high7, simple, upperAt, lowerAt, pointedAt, unlessOff, wordWalk, followed, pointerWalk, execWalk, userWalk, walkOf, readsOf}
+use Rattle.rules.specs.Maps.{low9, high7, upperAt, lowerAt, pointedAt, unlessOff, wordWalk, followed, pointerWalk, execWalk, userWalk, walkOf, readsOf}
 use Rattle.rules.proofs.Laws.Choices.{both-false}
 use Rattle.rules.proofs.Laws.SearchLaws.{among-first}
 
@@ -123,5 +123,5 @@ module _ (e : ℕ) (m n : Memory) (d : DifferAt e m n) where
   unfolding walkOf userWalk execWalk
   walk-spared r user p =
       pick-spared user _ _ _ _
-      (pick-spared (simple (r .ktum) p) _ _ _ _ (wordWalk-spared _ (upperAt-even _ p)) (pointerWalk-spared _ (upperAt-even _ p)))
-      (pick-spared (simple (r .ktem) p) _ _ _ _ (wordWalk-spared _ (upperAt-even _ p)) (wordWalk-spared _ (lowerAt-even _ p)))
+      (pick-spared _ _ _ _ _ (wordWalk-spared _ (upperAt-even _ p)) (pointerWalk-spared _ (upperAt-even _ p)))
+      (pick-spared _ _ _ _ _ (wordWalk-spared _ (upperAt-even _ p)) (wordWalk-spared _ (lowerAt-even _ p)))
