@@ -1,5 +1,5 @@
--- DEC's maintenance steps, source 5.2 f to i: which word each step's walk reads, for every memory, computed once from the definitions. Where a step names one map
--- register, the row holds whatever the other one is.
+-- DEC's maintenance steps, source 5.2 f to i: which word each step's walk reads, for every memory, computed once from the definitions. Where a step
+-- names one map register, the row holds whatever the other one is.
 use Prim.Native.Nat.{ℕ}
 use mathlib.Core.Path.{_≡_, refl}
 use mathlib.Core.Bool.{true, false}
