@@ -33,12 +33,13 @@ typedef char kt11b_long_has_64_bits[sizeof(unsigned long) == 8 ? 1 : -1];
 typedef char kt11b_short_has_16_bits[sizeof(unsigned short) == 2 ? 1 : -1];
 
 /*
- * The version of this interface. It rises with each change of a function, of an answer or of the unit's words. Words that were
- * saved are for the same version alone, with one exception: version 3 brought KT11B_OFF_MAP and changed no word, so the first word
- * is that of version 2, and units that version 2 saved are units of version 3. Words of another layout begin with another word and
- * are answered KT11B_NO_UNIT.
+ * The version of this interface. It rises with each change of a function, of an answer, of the unit's words or of what a call
+ * makes of them. Words that were saved are for the same version alone. Those of versions 2 and 3 have the layout of version 4 and
+ * its first word, so the library takes them for a unit; but version 4 moved the boundary of the simple pages by one, a cell may
+ * hold what was read by the older one, and a page that is in a cell is not walked. So with such words kt11b_init comes before any
+ * other call. Words of another layout begin with another word and are answered KT11B_NO_UNIT.
  */
-#define KT11B_VERSION 3
+#define KT11B_VERSION 4
 
 /* The unit, with either number of cells: unsigned short unit[KT11B_UNIT_WORDS]; */
 #define KT11B_UNIT_WORDS 67
@@ -87,7 +88,10 @@ typedef char kt11b_short_has_16_bits[sizeof(unsigned short) == 2 ? 1 : -1];
 #define KT11B_OTHER_COUNT 30    /* a unit is made with 8 or 24 cells, and with no other number */
 #define KT11B_NO_UNIT 70        /* the words don't hold a unit */
 
-/* Registers, by their place in the table of addresses from 777572 (octal) on. KTWN, place 0, is a window and is not read here. */
+/*
+ * Registers, by their place in the table of addresses from 777572 (octal) on. KTWN, place 0, is a window and is not read here.
+ * In KTUM and KTEM the low 9 bits are the physical page of the map, and the high 7 bits the number of the last simple page.
+ */
 #define KT11B_KTMR 1UL
 #define KT11B_KTCS 2UL
 #define KT11B_KTIC 3UL

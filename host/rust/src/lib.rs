@@ -76,7 +76,8 @@ pub use unit::{map_page, Unit, CELLS_24, CELLS_8, LONGEST_MEMORY, UNIT_WORDS};
 
 /// The version of the library's interface, the same number as the C header's `KT11B_VERSION`.
 ///
-/// It rises with each change of a function of the library, of an answer or of the unit's words. Words that were saved are for
-/// the same version alone, but those that version 2 saved are words of version 3 too: it brought [`Answer::OffMap`] and changed
-/// no word.
-pub const VERSION: u32 = 3;
+/// It rises with each change of a function of the library, of an answer, of the unit's words or of what a call makes of them.
+/// Words that were saved are for the same version alone. Those of versions 2 and 3 have the same layout, so they are taken for a
+/// unit; but version 4 moved the boundary of the simple pages by one, and a cell may hold what was read by the older one. So
+/// [`Unit::init`] comes before any other call with such words.
+pub const VERSION: u32 = 4;

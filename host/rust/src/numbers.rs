@@ -82,9 +82,9 @@ pub enum Register {
     Ktad = 7,
     /// 777612: the data of the last violation.
     Ktdt = 8,
-    /// 777614: the user map.
+    /// 777614: the user map. The low 9 bits are its physical page, the high 7 bits the number of the last simple page.
     Ktum = 9,
-    /// 777616: the exec map.
+    /// 777616: the exec map, in the same form.
     Ktem = 10,
 }
 

@@ -63,7 +63,7 @@ impl Unit {
         }
     }
 
-    /// A unit of words that [`words`](Unit::words) gave, in this run or an earlier one.
+    /// A unit of words that [`words`](Unit::words) gave, in this run or in an earlier one of the same [`VERSION`](crate::VERSION).
     ///
     /// Any words are taken. Words that don't hold a unit are refused by each call with
     /// [`Answer::NoUnit`](crate::Answer::NoUnit), and then nothing changes. In the words of a unit with 8 cells, those with room
