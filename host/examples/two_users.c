@@ -27,7 +27,7 @@ static unsigned short unit[KT11B_UNIT_WORDS];
 /* What the monitor keeps of a user who is not running. */
 struct user {
     const char *name;
-    unsigned short map;         /* for KTUM: N in the high 7 bits, the map's physical page in the low 9 */
+    unsigned short map;         /* for KTUM: N, the last simple page, in the high 7 bits, the map's own page in the low 9 */
     unsigned short pc, ps, sp;
     unsigned short r0;
 };
@@ -183,8 +183,8 @@ static void load_program(unsigned long place, unsigned mark)
 }
 
 /*
- * Map words: bit 15 resident, 14 public, 13 write-enabled, the physical page in 8-0. A page below N has its word at
- * 512*M + 256 + 2*page, in the page M of its own register; an exec page from N on at 512*M + 2*page, in KTUM's.
+ * Map words: bit 15 resident, 14 public, 13 write-enabled, the physical page in 8-0. A page up to N has its word at
+ * 512*M + 256 + 2*page, in the page M of its own register; an exec page beyond N at 512*M + 2*page, in KTUM's.
  */
 static void load_maps(void)
 {

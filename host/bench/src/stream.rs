@@ -15,14 +15,15 @@ pub const LENGTH: usize = 65_536;
 
 pub const MEMORY_BYTES: usize = 65_536;
 
-/// KTUM: N=7, the map in physical page 5.
+/// KTUM: N=7, so pages 0 to 7 are simple; the map is in physical page 5.
 pub const KTUM: u16 = 0o007005;
 
 /// The working set: three pages of code, three of data, all simple and private.
 const CODE_PAGES: u16 = 3;
 const WORKING_SET: u16 = 6;
 
-/// The pages of a sweep: the working set, and six public ones that are reached by pointers. 6 and 7 stand at N and are left out.
+/// The pages of a sweep: the working set, and six public ones beyond N, which are reached by pointers. 6 and 7, the last that are
+/// simple, are left out.
 const SWEPT: [u16; 12] = [0, 1, 2, 3, 4, 5, 8, 9, 10, 11, 12, 13];
 
 /// Instructions between two sweeps.

@@ -25,7 +25,8 @@ impl Rig {
         Rig { unit, memory: vec![0; 65_536] }
     }
 
-    /// The first two stores of 01's listing: KTEM N=127, M=1, then FCN 2, with exec page 1 in physical page 2.
+    /// The first two stores of 01's listing: KTEM N=127, M=1, so all pages are simple, then FCN 2, with exec page 1 in physical
+    /// page 2.
     pub fn paged() -> Rig {
         let mut rig = Rig::new();
         rig.put(0o001402, 0o160002);
@@ -35,7 +36,8 @@ impl Rig {
         rig
     }
 
-    /// A user in FCN 2: KTUM N=16, M=5; user page 1 open (page 20), page 2 not resident, page 3 read-only (page 21).
+    /// A user in FCN 2: KTUM N=16, M=5, so pages 0 to 16 are simple; user page 1 open (page 20), page 2 not resident, page 3
+    /// read-only (page 21).
     pub fn user() -> Rig {
         Rig::user_with_cells(CELLS_8)
     }
