@@ -127,18 +127,20 @@ static void scribbled_units(unsigned long rounds)
     give_back();
 }
 
-/* A unit in FCN 2. It needs no memory. */
-static void paging_unit(void)
+/* A unit in FCN 2, with this word in KTEM. It needs no memory. */
+static void paging_unit(unsigned short ktem)
 {
     fresh_unit(either_number());
+    kt11b_access(unit, memory, length, KT11B_DATO, KT11B_EXECUTE, KT11B_WORD, 0177616, ktem);
     kt11b_access(unit, memory, length, KT11B_DATO, KT11B_EXECUTE, KT11B_WORD, 0177576, 2);
+    check(KT11B_REPLY_DATA(kt11b_register(unit, KT11B_KTEM)) == ktem, "KTEM is stored");
     check(KT11B_REPLY_DATA(kt11b_register(unit, KT11B_KTCS)) == 2, "FCN 2 is stored");
 }
 
 /* One that waits for the first SERVICE DATO, after an odd word in exec page 0. */
 static void waiting_unit(void)
 {
-    paging_unit();
+    paging_unit(0);
     kt11b_access(unit, memory, length, KT11B_DATI, KT11B_EXECUTE, KT11B_WORD, 1, 0);
     check(KT11B_REPLY_DATA(kt11b_wait(unit)) == KT11B_WAIT_STATUS, "an odd word, paged, leaves the unit waiting");
 }
@@ -160,18 +162,24 @@ static void try_numbers(struct access *made)
     check((answer == KT11B_DONE) == due, "the access that is due is taken, and no other");
 }
 
-/* The same at an address of exec page 0, which has no map word, and of exec page 1, whose map word is not there. */
+/*
+ * The same at an address of exec page 0, which has no map word, and of exec page 1, whose map word is not there: neither in KTUM's
+ * page, where N is 0, nor in KTEM's, where N is 127.
+ */
 static void try_paged(const struct access *made)
 {
     struct access in_page_1 = *made;
-    int answer;
+    int answer, where_walked;
 
     in_page_1.address += 01000;
-    paging_unit();
+    paging_unit(0);
     answer = try_access(made);
     check(answer == KT11B_MISSHAPEN || answer == KT11B_TIME_OUT, "no memory, paged: shape, or no target");
-    paging_unit();
-    check(try_access(&in_page_1) == (answer == KT11B_TIME_OUT ? KT11B_OFF_MAP : answer), "and where it is walked, no map word");
+    where_walked = answer == KT11B_TIME_OUT ? KT11B_OFF_MAP : answer;
+    paging_unit(0);
+    check(try_access(&in_page_1) == where_walked, "and where it is walked, no map word of the process");
+    paging_unit(0177000);
+    check(try_access(&in_page_1) == where_walked, "nor of the exec");
 }
 
 /* Every operation from 0 to 300, with every state and width and one beyond. */

@@ -94,19 +94,49 @@ fn an_exec_page() {
     walk.is_done_with(0o001404);
 }
 
-/// "Other exec pages: word at 512·M(KTUM)+2p": with N=1 page 1 is one of them, and 512·5+2·1 is 005002.
+/// The last simple page: "KTEM N=4, M=1: .. exec page 4 at 001410o".
+#[test]
+fn the_last_simple_exec_page() {
+    let walk = Walk {
+        user: false,
+        ktum: 0o004005,
+        ktem: 0o004001,
+        words: &[(0o001410, MAP_WORD)],
+        address: 0o004010,
+        tag: 0o004,
+    };
+    walk.runs_off_with(0o001410);
+    walk.is_done_with(0o001412);
+}
+
+/// "Other exec pages: word at 512·M(KTUM)+2p": with N=0 page 1 is one of them, and 512·5+2·1 is 005002.
 #[test]
 fn an_exec_page_of_the_process() {
     let walk = Walk {
         user: false,
         ktum: 0o004005,
-        ktem: 0o001001,
+        ktem: 0o000001,
         words: &[(0o005002, MAP_WORD)],
         address: 0o001010,
         tag: 0o001,
     };
     walk.runs_off_with(0o005002);
     walk.is_done_with(0o005004);
+}
+
+/// The first of them with N=4: "exec page 5, with that KTUM, at 005012o".
+#[test]
+fn the_first_exec_page_of_the_process() {
+    let walk = Walk {
+        user: false,
+        ktum: 0o004005,
+        ktem: 0o004001,
+        words: &[(0o005012, MAP_WORD)],
+        address: 0o005010,
+        tag: 0o005,
+    };
+    walk.runs_off_with(0o005012);
+    walk.is_done_with(0o005014);
 }
 
 /// "User simple: word at 512·M(KTUM)+256+2p": "KTUM 004005o (N=4): user page 3 word at 005406o".
@@ -124,18 +154,33 @@ fn a_user_page() {
     walk.is_done_with(0o005410);
 }
 
-/// "page 4 pointer at 005410o; pointer 003007o leads to 007406o": that word lies above the pointer, at L or just below it.
+/// The last simple page: "page 4 word at 005410o".
+#[test]
+fn the_last_simple_user_page() {
+    let walk = Walk {
+        user: true,
+        ktum: 0o004005,
+        ktem: 0,
+        words: &[(0o005410, MAP_WORD)],
+        address: 0o004010,
+        tag: 0o204,
+    };
+    walk.runs_off_with(0o005410);
+    walk.is_done_with(0o005412);
+}
+
+/// "page 5 pointer at 005412o; pointer 003007o leads to 007406o": that word lies above the pointer, at L or just below it.
 #[test]
 fn a_word_that_is_pointed_to() {
     let walk = Walk {
         user: true,
         ktum: 0o004005,
         ktem: 0,
-        words: &[(0o005410, 0o003007), (0o007406, MAP_WORD)],
-        address: 0o004010,
-        tag: 0o204,
+        words: &[(0o005412, 0o003007), (0o007406, MAP_WORD)],
+        address: 0o005010,
+        tag: 0o205,
     };
-    for length in [0o005410, 0o005412, 0o007404, 0o007406] {
+    for length in [0o005412, 0o005414, 0o007404, 0o007406] {
         walk.runs_off_with(length);
     }
     walk.is_done_with(0o007410);
@@ -148,10 +193,10 @@ fn a_pointer() {
         user: true,
         ktum: 0o004005,
         ktem: 0,
-        words: &[(0o005410, 0o003001), (0o001406, MAP_WORD)],
-        address: 0o004010,
-        tag: 0o204,
+        words: &[(0o005412, 0o003001), (0o001406, MAP_WORD)],
+        address: 0o005010,
+        tag: 0o205,
     };
-    walk.runs_off_with(0o005410);
-    walk.is_done_with(0o005412);
+    walk.runs_off_with(0o005412);
+    walk.is_done_with(0o005414);
 }

@@ -36,11 +36,13 @@ fn a_hit_needs_no_map_word() {
     }
 }
 
-/// "Exec page 0: physical page M of KTEM, no cell": it is never walked, so with L=0 it is its target that is not there.
+/// "Exec page 0: physical page M of KTEM, no cell": it is never walked, so with L=0 it is its target that is not there. Page 1 is
+/// walked, by KTUM's map where N is 0 and by KTEM's where N is 127.
 #[test]
 fn no_memory_at_all() {
-    for cells in BOTH {
+    for (cells, ktem) in BOTH.into_iter().flat_map(|cells| [(cells, 0), (cells, 0o177000)]) {
         let mut rig = Rig { memory: Vec::new(), ..Rig::with_cells(cells) };
+        assert_eq!(rig.write(0o177616, ktem).answer(), Answer::Done);
         assert_eq!(rig.write(0o177576, 0o000002).answer(), Answer::Done);
         assert_eq!(parts(rig.read(0o001000)), RAN_OFF, "exec page 1");
         serve_both(&mut rig);
@@ -94,7 +96,11 @@ fn a_register_is_no_map_word() {
     }
     let mut rig = Rig::user();
     rig.put(0o005442, 0o107777);
-    assert_eq!(parts(rig.read(0o021616)), RAN_OFF, "user page 21, whose pointer leads to 777616");
+    assert_eq!(
+        parts(rig.read(0o021616)),
+        RAN_OFF,
+        "user page 21, the first that is not simple: its pointer leads to 777616"
+    );
 }
 
 /// An access whose page has its map word at `word_at` and is in no cell, and what is left after a 10.
