@@ -20,9 +20,13 @@
 /* Of so many calls of a run one is INIT, and seven are interrupts and traps. */
 #define CALLS 200
 
-/* The memory of a long run, and so little of it that walks run off: it ends before the upper half of any map page. */
+/*
+ * The memory of a long run, with map words in its first pages, and so little of it that every walk runs off: the first map word that
+ * there can be, that of exec page 1 beyond N with M=0, stands at 2.
+ */
 #define WHOLE 65536UL
-#define LITTLE 256UL
+#define MAP_PAGES 4
+#define LITTLE 2UL
 
 static const unsigned long both[] = {KT11B_CELLS_8, KT11B_CELLS_24};
 
@@ -244,7 +248,7 @@ static void lend_with_maps(void)
     unsigned long place;
 
     lend(WHOLE);
-    for (place = 0; place < 4 * 512; place += 2) {
+    for (place = 0; place < MAP_PAGES * 512; place += 2) {
         unsigned long keys = below(16) ? 0120000 | (next_random() & 0040000) : next_random() & 0160000;
 
         put_word(place, keys | (below(8) ? below(128) : 0777));
@@ -253,6 +257,28 @@ static void lend_with_maps(void)
         put_word(place, known[below(COUNT(known))]);
     }
     memcpy(expected, memory, length);
+}
+
+/* Whether a map register names none of the pages that lend_with_maps fills. */
+static int names_no_map(unsigned long map_register)
+{
+    return (KT11B_REPLY_DATA(kt11b_register(unit, map_register)) & 0777) >= MAP_PAGES;
+}
+
+/*
+ * Makes an access a store that begins paging; but first one that mends a map register. With one that leads nowhere a long run would
+ * come to little else than answer 10, since paged it finds no way back to the registers.
+ */
+static void make_paging_begin(struct access *made)
+{
+    made->operation = KT11B_DATO, made->state = KT11B_EXECUTE, made->width = KT11B_WORD;
+    if (names_no_map(KT11B_KTUM)) {
+        made->address = 0177614, made->data &= 0177003;
+    } else if (names_no_map(KT11B_KTEM)) {
+        made->address = 0177616, made->data &= 0177003;
+    } else {
+        made->address = 0177576, made->data = (unsigned short) (1 + below(3));
+    }
 }
 
 /* Makes an access the one that is due, or one that begins paging, or a fetch of the right shape. */
@@ -266,8 +292,7 @@ static void make_due(struct access *made)
     } else if (function == 3) {
         made->operation = KT11B_DATI, made->state = KT11B_EXECUTE, made->width = KT11B_WORD;
     } else if (function == 0 && below(2)) {
-        made->operation = KT11B_DATO, made->state = KT11B_EXECUTE, made->width = KT11B_WORD;
-        made->address = 0177576, made->data = (unsigned short) (1 + below(3));
+        make_paging_begin(made);
     } else if (made->state == KT11B_FETCH) {
         made->operation = KT11B_DATI, made->width = KT11B_WORD;
     }
