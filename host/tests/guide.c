@@ -39,10 +39,10 @@ static int write_word(unsigned long state, unsigned short address, unsigned shor
 }
 
 /*
- * A fresh machine. KTEM is 177001 (N=127, M=1): exec page 0 is physical page 1, exec page 1 page 2, exec page 2 the registers.
- * KTUM is 100005 (N=64, M=5): user page 0 is physical page 20, page 1 is page 21, page 2 is page 22 and not resident,
- * page 3 is page 21 and read-only. Vector 4 is 000200 and 000340, of the bare machine and, in physical page 1, of the exec;
- * vector 34 of the user is 000300 and 000357.
+ * A fresh machine. KTEM is 177001 (N=177, M=1), so every exec page is simple: exec page 0 is physical page 1, exec page 1 page 2,
+ * exec page 2 the registers. KTUM is 100005 (N=100, M=5), so user pages 0 to 100 are: user page 0 is physical page 20, page 1 is
+ * page 21, page 2 is page 22 and not resident, page 3 is page 21 and read-only. Vector 4 is 000200 and 000340, of the bare machine
+ * and, in physical page 1, of the exec; vector 34 of the user is 000300 and 000357. All of these numbers are octal.
  */
 static void new_machine(void)
 {
@@ -162,7 +162,7 @@ static void paged_refusals(void)
     violation(read_word(EXECUTE, 04000), KT11B_TIME_OUT, 0);
 }
 
-/* User page 101 is not simple: its pointer, at 005602, names physical page 200, which is past core. */
+/* User page 101 is the first that is not simple: its pointer, at 005602, names physical page 200, which is past core. */
 static void user_with_a_wild_pointer(void)
 {
     user_runs();
@@ -187,6 +187,102 @@ static void off_the_map(void)
     check(write_word(EXECUTE, 0177616, 0177200) == KT11B_DONE && write_word(EXECUTE, 0177576, 2) == KT11B_DONE,
         "an exec map past core");
     check(read_word(EXECUTE, 01010) == KT11B_OFF_MAP && past_core(KT11B_KTEM), "KTEM is to blame");
+}
+
+/*
+ * A machine with these map registers. Each place of the maps names a physical page: 20 the exec's words, 21 the exec's words in the
+ * user's map, 22 the user's words. 160022 is also a pointer, with n=160 and m=22: it leads to 022740, where the word names page 23.
+ */
+static void new_maps(unsigned exec_last, unsigned user_last)
+{
+    unsigned page;
+
+    new_machine();
+    for (page = 0; page <= 0177; page++) {
+        put_core_word(01400 + 2 * page, 0160020);
+        put_core_word(05000 + 2 * page, 0160021);
+        put_core_word(05400 + 2 * page, 0160022);
+    }
+    put_core_word(022740, 0160023);
+    check(write_word(EXECUTE, 0177616, (unsigned short) (exec_last << 9 | 1)) == KT11B_DONE, "KTEM is stored");
+    check(write_word(EXECUTE, 0177614, (unsigned short) (user_last << 9 | 5)) == KT11B_DONE, "KTUM is stored");
+}
+
+/* The reply of a read at offset 10 of a page. */
+static unsigned long read_page(unsigned page)
+{
+    return kt11b_access(unit, core, sizeof core, KT11B_DATI, EXECUTE, KT11B_WORD, (unsigned short) (page << 9 | 010), 0);
+}
+
+static unsigned long place_of(unsigned page)
+{
+    unsigned long reply = read_page(page);
+
+    check(KT11B_REPLY_ANSWER(reply) == KT11B_DONE && KT11B_REPLY_HAS_PHYSICAL(reply), "a page of the maps is read");
+    return KT11B_REPLY_PHYSICAL(reply);
+}
+
+static void begin_paging(void)
+{
+    check(write_word(EXECUTE, 0177576, 2) == KT11B_DONE && ktcs() == 2, "the exec is paged");
+}
+
+static void begin_user(void)
+{
+    check(write_word(EXECUTE, 0177576, 3) == KT11B_DONE, "FCN 3");
+    check(read_word(EXECUTE, 0) == KT11B_DONE && read_word(EXECUTE, 0) == KT11B_DONE && ktcs() == 022, "a user is started");
+}
+
+/* By the answers: where nothing is resident beyond N, page N is read all the same, and page N + 1 is answered 5. */
+static void refused_beyond(unsigned last)
+{
+    check(KT11B_REPLY_ANSWER(read_page(last)) == KT11B_DONE, "page N is simple");
+    check(last == 0177 || KT11B_REPLY_ANSWER(read_page(last + 1)) == KT11B_RV, "page N + 1 is beyond");
+}
+
+/* "exec pages by KTEM's N": KTUM's is as far from the other end. Exec page 0 is not walked. */
+static void exec_boundary(unsigned last)
+{
+    unsigned page;
+
+    new_maps(last, 0177 - last);
+    begin_paging();
+    check(place_of(0) == 01010, "exec page 0 is page M of KTEM");
+    for (page = 1; page <= 0177; page++) {
+        check(place_of(page) == (page <= last ? 020010UL : 021010UL), "exec pages up to N are simple, others the process's");
+    }
+    memset(core + 05000, 0, 0400);
+    reset();
+    begin_paging();
+    refused_beyond(last);
+}
+
+/* "user pages by KTUM's N", page 0 among them. */
+static void user_boundary(unsigned last)
+{
+    unsigned page;
+
+    new_maps(0177 - last, last);
+    begin_user();
+    for (page = 0; page <= 0177; page++) {
+        check(place_of(page) == (page <= last ? 022010UL : 023010UL), "user pages up to N are simple, others shared");
+    }
+    put_core_word(022740, 0);
+    reset();
+    begin_user();
+    refused_beyond(last);
+}
+
+/* "Pages 0 to N are simple .. N = 0 is one page (page 0). N = 127 is all pages": 127 is 177. */
+static void boundaries(void)
+{
+    static const unsigned lasts[] = {0, 1, 4, 0100, 0176, 0177};
+    unsigned long index;
+
+    for (index = 0; index < sizeof lasts / sizeof lasts[0]; index++) {
+        exec_boundary(lasts[index]);
+        user_boundary(lasts[index]);
+    }
 }
 
 /* A stack whose map word is past core: exec page 177 is not simple by KTEM 100001, so its word is in KTUM's page. */
@@ -502,6 +598,7 @@ static void whole_guide(void)
     unpaged_time_out_of_a_user();
     paged_refusals();
     off_the_map();
+    boundaries();
     stack_off_the_map();
     second_bus_error();
     state_of_a_store();
