@@ -576,15 +576,62 @@ static void save_and_restore(void)
     other = kept;
     other.version = KT11B_VERSION + 1;
     check(!restore(&other) && ktcs() == 022, "a later version is refused");
-    other.version = 1;
-    check(!restore(&other) && ktcs() == 022, "version 1 is refused");
-    other.version = 2;
-    check(read_word(EXECUTE, 0101) == KT11B_AV && restore(&other) && ktcs() == 022, "version 2 has the same words");
+    for (other.version = 1; other.version < KT11B_VERSION; other.version++) {
+        check(!restore(&other) && ktcs() == 022, "an older version is refused");
+    }
     other = kept;
     other.words[0] ^= 1;
     check(!restore(&other) && ktcs() == 022, "another layout is refused");
     check(power_on(KT11B_CELLS_8 + KT11B_CELLS_24 - made_with) && restore(&kept) && ktcs() == 022, "over the other number");
     check(KT11B_REPLY_DATA(kt11b_cells(unit)) == made_with, "a unit has the cells that it was saved with");
+}
+
+/*
+ * A unit as version 3 left it: KTEM's N is 1, and the cell of exec page 1 has the word from KTUM's page, which names page 3. It is
+ * put into the cell by way of the bus: in FCN 1 EXECUTE is paged, and SOURCE is not.
+ */
+static void saved_by_version_3(struct saved *kept)
+{
+    new_machine();
+    put_core_word(05002, 0160003);
+    check(write_word(EXECUTE, 0177616, 0001001) == KT11B_DONE && write_word(EXECUTE, 0177576, 1) == KT11B_DONE, "N=1 and FCN 1");
+    check(place_of(1) == 02010, "page 1 is simple now");
+    check(write_word(KT11B_SOURCE, 0177620, core_word(05002)) == KT11B_DONE, "and was not then");
+    save(kept);
+    kept->version = 3;
+}
+
+/* "such a page would go on by the older rule": so the session is begun again, by INIT. */
+static void an_older_session(void)
+{
+    struct saved kept;
+
+    saved_by_version_3(&kept);
+    check(place_of(1) == 03010, "taken on as they stand, the words go by the cell");
+    for (kept.version = 2; kept.version <= 3; kept.version++) {
+        check(!restore(&kept) && cells_in_use() == 1, "they are not restored");
+        check(begin_again(&kept) && ktcs() == 0 && cells_in_use() == 0, "INIT empties the cells, and paging is off");
+        check(reg(KT11B_KTEM) == 0001001 && reg(KT11B_KTUM) == 0100005, "the map registers stay");
+        check(write_word(EXECUTE, 0177576, 1) == KT11B_DONE && place_of(1) == 02010, "page 1 is walked, and is simple");
+    }
+}
+
+/* A line says of which version the words are, or that they are none. */
+static void what_the_user_is_told(void)
+{
+    struct saved kept;
+    char why[80];
+
+    saved_by_version_3(&kept);
+    check(cannot_restore(&kept, why) && strstr(why, "saved by version 3,") != NULL, "the version is told");
+    kept.words[0] ^= 1;
+    check(!begin_again(&kept) && ktcs() == 1, "words that don't hold a unit are not begun with");
+    kept.version = KT11B_VERSION;
+    check(cannot_restore(&kept, why) && strstr(why, "don't hold a unit") != NULL, "nor restored");
+    kept.words[0] ^= 1;
+    check(!cannot_restore(&kept, why) && !begin_again(&kept) && ktcs() == 1, "those of this version are restored alone");
+    kept.version = 1;
+    check(!begin_again(&kept) && ktcs() == 1, "those of version 1 have another layout");
 }
 
 static void whole_guide(void)
@@ -614,6 +661,8 @@ static void whole_guide(void)
     devices_out_of_reach();
     a_question();
     save_and_restore();
+    an_older_session();
+    what_the_user_is_told();
     a_trace();
 }
 
