@@ -11,7 +11,7 @@ pub mod generate;
 pub mod options;
 
 pub use instruction::Kind;
-pub use maps::{map_page, pointed_place, route, simple_pages, Route};
+pub use maps::{is_simple, last_simple_page, map_page, pointed_place, route, Route};
 pub use registers::Target;
 pub use state::{
     FetchMemory, Reply, Unit, Wait, AV, DS, ERRORS, FCN, FEW_CELLS, IU, IV, KTAD, KTDT, KTEM, KTIC,

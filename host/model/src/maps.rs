@@ -62,26 +62,29 @@ fn page_base(word: u16) -> u32 {
     u32::from(word & 0o777) * 512
 }
 
-/// N of a map register; 0 counts as 128.
+/// N of a map register: "the field is the number of the last simple page".
 #[inline]
-pub fn simple_pages(register: u16) -> u16 {
-    match register >> 9 {
-        0 => 128,
-        n => n,
-    }
+pub fn last_simple_page(register: u16) -> u16 {
+    register >> 9
+}
+
+/// "So pages 0 to N are simple, N=0 means one page, and N=127 means all."
+#[inline]
+pub fn is_simple(register: u16, page: u16) -> bool {
+    page <= last_simple_page(register)
 }
 
 /// Where the walk for a page begins under these map registers.
 #[inline]
 pub fn route(ktum: u16, ktem: u16, user: bool, page: u16) -> Route {
     let high = 256 + 2 * u32::from(page);
-    if user && page < simple_pages(ktum) {
+    if user && is_simple(ktum, page) {
         Route::UserSimple(page_base(ktum) + high)
     } else if user {
         Route::UserShared(page_base(ktum) + high)
     } else if page == 0 {
         Route::ExecZero
-    } else if page < simple_pages(ktem) {
+    } else if is_simple(ktem, page) {
         Route::ExecSimple(page_base(ktem) + high)
     } else {
         // "word at 512·M(KTUM)+2p": in the low half of the page, where the others add 256.

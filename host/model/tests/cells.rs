@@ -71,13 +71,13 @@ fn a_page_not_resident_fills_a_cell_which_then_empties() {
 #[test]
 fn a_walk_that_ran_off_memory_fills_nothing_and_does_not_step() {
     let mut rig = Rig::exec();
-    rig.write(0o177616, 0o000777);
+    rig.write(0o177616, 0o177777);
     assert_eq!(rig.read(0o001000), bare(10));
     assert_eq!((rig.unit.tags(), rig.unit.counter()), (&[0; 8][..], 0o10));
     // A pointer that leads beyond memory.
     let mut rig = Rig::user();
-    rig.put(0o005410, 0o000200);
-    assert_eq!(rig.read(0o004000), bare(10));
+    rig.put(0o005412, 0o000200);
+    assert_eq!(rig.read(0o005000), bare(10));
     assert_eq!((rig.unit.tags(), rig.unit.counter()), (&[0; 8][..], 0o10));
 }
 
@@ -86,7 +86,7 @@ fn a_walk_that_ran_off_memory_fills_nothing_and_does_not_step() {
 fn a_hit_never_runs_off_memory() {
     let mut rig = Rig::exec();
     rig.put(0o100402, 0o160002);
-    rig.write(0o177616, 0o000100);
+    rig.write(0o177616, 0o177100);
     assert_eq!(rig.read(0o001000), done(0, 0o002000));
     rig.memory.truncate(0o010000);
     assert_eq!(rig.read(0o001002), done(0, 0o002002));
@@ -94,19 +94,19 @@ fn a_hit_never_runs_off_memory() {
 }
 
 /// "Other exec pages: word at 512·M(KTUM)+2p."
-/// "N=0 counts as 128; pages below N are simple (source 3.3.2.2)."
+/// By T-02 "pages 0 to N are simple, N=0 means one page, and N=127 means all".
 #[test]
-fn exec_pages_from_n_on_are_read_in_ktums_page() {
+fn exec_pages_beyond_n_are_read_in_ktums_page() {
     let mut rig = Rig::exec();
     rig.put(0o005002, 0o160030);
-    rig.write(0o177616, 0o001001);
+    rig.write(0o177616, 0o000001);
     assert_eq!(rig.read(0o001000), done(0, 0o030000));
     assert_eq!(rig.unit.tags()[0], 1);
-    // N = 0 counts as 128 for KTUM: page 4's word is then no pointer.
+    // N=127 means all for KTUM: page 5's word is then no pointer.
     let mut rig = Rig::exec();
-    rig.write(0o177614, 0o000005);
-    rig.put(0o005410, 0o160031);
-    rig.write(0o177610, 0o004000);
+    rig.write(0o177614, 0o177005);
+    rig.put(0o005412, 0o160031);
+    rig.write(0o177610, 0o005000);
     assert_eq!(rig.read(0o177572), done(0, 0o031000));
 }
 
@@ -114,13 +114,13 @@ fn exec_pages_from_n_on_are_read_in_ktums_page() {
 #[test]
 fn a_pointer_has_no_keys() {
     let mut rig = Rig::user();
-    assert_eq!(rig.write(0o004000, 1), done(0, 0o013000));
+    assert_eq!(rig.write(0o005000, 1), done(0, 0o013000));
     assert_eq!(rig.unit.words()[0], 0o160013);
     // A pointer with bits 15-13 set leads to entry 160o and up, and the word there decides.
     let mut rig = Rig::user();
-    rig.put(0o005410, 0o160007);
+    rig.put(0o005412, 0o160007);
     rig.put(0o007740, 0o100014);
-    assert_eq!(rig.write(0o004000, 1), bare(6));
+    assert_eq!(rig.write(0o005000, 1), bare(6));
 }
 
 /// "Any of answers 4-8, or a paged 9: .. the cell of the page at fault .. empties"; answer 4 comes before "6. Walk (9).", which

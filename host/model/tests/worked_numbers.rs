@@ -1,36 +1,62 @@
-//! The worked numbers of 01, starred or not, its bench program's lines, and the map page that tools get.
+//! The worked numbers of 01, starred or not, those of the boundary as T-02 has them; its bench program's lines, and the map page that
+//! tools get.
 
 mod common;
 
 use common::{bare, bench, done, Rig};
-use kt11b_model::{map_page, pointed_place, route, simple_pages, Route, Unit};
+use kt11b_model::{last_simple_page, map_page, pointed_place, route, Route, Unit};
 
 const HEADER: &str = "CALL\tANS\tDATA\tPHYS\tKTCS\n";
 
-/// "KTUM 004005o (N=4): user page 3 word at 005406o; * page 4 pointer at 005410o; * pointer 003007o leads to 007406o."
+/// By T-02 "KTUM 004005o (N=4): user page 3 word at 005406o; page 4 word at 005410o; page 5 pointer at 005412o; pointer 003007o leads to
+/// 007406o."
 #[test]
-fn ktum_004005_has_four_simple_pages() {
-    assert_eq!(simple_pages(0o004005), 4);
+fn ktum_004005_has_its_last_simple_page_at_4() {
+    assert_eq!(last_simple_page(0o004005), 4);
     assert_eq!(route(0o004005, 0, true, 3), Route::UserSimple(0o005406));
-    assert_eq!(route(0o004005, 0, true, 4), Route::UserShared(0o005410));
+    assert_eq!(route(0o004005, 0, true, 4), Route::UserSimple(0o005410));
+    assert_eq!(route(0o004005, 0, true, 5), Route::UserShared(0o005412));
     assert_eq!(pointed_place(0o003007), 0o007406);
 }
 
 /// "User simple: word at 512·M(KTUM)+256+2p."
 /// "Other user pages: the word at that same place is a pointer"
 #[test]
-fn a_user_gets_to_pages_3_and_4_by_those_places() {
+fn a_user_gets_to_pages_3_4_and_5_by_those_places() {
     let mut rig = Rig::user();
     assert_eq!(rig.read(0o003002), done(0, 0o012002));
-    assert_eq!(rig.read(0o004004), done(0, 0o013004));
-    assert_eq!(rig.unit.tags()[..2], [0o203, 0o204]);
+    assert_eq!(rig.read(0o004004), done(0, 0o014004));
+    assert_eq!(rig.read(0o005006), done(0, 0o013006));
+    assert_eq!(rig.unit.tags()[..3], [0o203, 0o204, 0o205]);
 }
 
-/// "KTEM N=4, M=1: exec page 3 at 001406o; * exec page 4, with the KTUM above, at 005010o."
+/// By T-02 "KTEM N=4, M=1: exec page 3 at 001406o; exec page 4 at 001410o; exec page 5, with that KTUM, at 005012o."
 #[test]
 fn ktem_with_n_4_and_m_1() {
     assert_eq!(route(0o004005, 0o004001, false, 3), Route::ExecSimple(0o001406));
-    assert_eq!(route(0o004005, 0o004001, false, 4), Route::ExecPerProcess(0o005010));
+    assert_eq!(route(0o004005, 0o004001, false, 4), Route::ExecSimple(0o001410));
+    assert_eq!(route(0o004005, 0o004001, false, 5), Route::ExecPerProcess(0o005012));
+}
+
+/// The same by accesses; each of the words names a page of its own.
+#[test]
+fn exec_gets_to_pages_3_4_and_5_by_those_places() {
+    let mut rig = Rig::exec();
+    rig.write(0o177616, 0o004001);
+    for (place, word) in [
+        (0o001406, 0o160020),
+        (0o001410, 0o160021),
+        (0o001412, 0o160022),
+        (0o005006, 0o160030),
+        (0o005010, 0o160031),
+        (0o005012, 0o160032),
+    ] {
+        rig.put(place, word);
+    }
+    assert_eq!(rig.read(0o003002), done(0, 0o020002));
+    assert_eq!(rig.read(0o004004), done(0, 0o021004));
+    assert_eq!(rig.read(0o005006), done(0, 0o032006));
+    assert_eq!(rig.unit.tags()[..3], [0o003, 0o004, 0o005]);
 }
 
 /// "KTEM M=1: * exec 000777o is 001777o; * exec 001000o is walked."
@@ -130,7 +156,7 @@ fn numbers_of_bench_lines_and_of_calls() {
 /// "`W` address value (even, one memory word)"; "A hit uses the cell."
 #[test]
 fn a_w_line_leaves_the_cells_alone() {
-    let input = b"W\t1402\t160002\nW\t2000\t7\nW\t3000\t11\nA\t2\t2\t0\t177616\t1\n\
+    let input = b"W\t1402\t160002\nW\t2000\t7\nW\t3000\t11\nA\t2\t2\t0\t177616\t177001\n\
         A\t2\t3\t0\t177576\t2\nA\t0\t3\t0\t1000\t0\nW\t1402\t160003\nA\t0\t3\t0\t1000\t0\n";
     let expected = "CALL\tANS\tDATA\tPHYS\tKTCS\n1\t0\t000000\t777616\t000000\n\
         2\t0\t000000\t777576\t000002\n3\t0\t000007\t002000\t000002\n\
@@ -178,7 +204,7 @@ fn init_leaves_the_eight_registers() {
     assert_eq!(rig.unit.init(), bare(0));
     assert_eq!((rig.ktcs(), rig.unit.wait_number(), rig.unit.counter()), (0, 0, 0o10));
     assert_eq!(rig.unit.registers(), registers);
-    assert_eq!(registers[4..], [0o001001, 0, 0o004005, 0o000001]);
+    assert_eq!(registers[4..], [0o001001, 0, 0o004005, 0o177001]);
 }
 
 /// The unit that `host/bench` times beside the other; 01 has none without cells.

@@ -4,7 +4,7 @@ use super::kinds::*;
 use super::plan::USER_MAP;
 use super::Generator;
 use crate::instruction::Kind;
-use crate::maps::{simple_pages, Entry};
+use crate::maps::{is_simple, Entry};
 
 /// Pages a read and a store get through to.
 fn open(entry: &Entry) -> bool {
@@ -190,11 +190,10 @@ impl Generator {
         // The higher of two, so as to get shared pages more often.
         let page = one.max(other);
         let address = (page << 9) | (2 * self.random.below(6) as u16);
-        let shared = page >= simple_pages(self.plan.ktum);
-        let word = if shared {
-            self.plan.pointer(&mut self.random)
-        } else {
+        let word = if is_simple(self.plan.ktum, page) {
             self.plan.entry(&mut self.random)
+        } else {
+            self.plan.pointer(&mut self.random)
         };
         self.push_access([DATO, SERVICE, 0], base | KTAD_OFFSET, address);
         self.push_access([DATI, SERVICE, 0], base | KTWN_OFFSET, 0);

@@ -49,7 +49,7 @@ impl Plan {
         let exec_zero_registers = random.one_in(6);
         let ktem = if exec_zero_registers {
             // Exec page 0 is the register page; the others then come from KTUM's page.
-            (random.pick(&[1, 1, 1, 3]) << 9) | REGISTER_PAGE
+            (random.pick(&[0, 0, 0, 2]) << 9) | REGISTER_PAGE
         } else {
             map_register(random)
         };
@@ -138,7 +138,7 @@ impl Plan {
 
     /// A pointer of a shared page, mostly into a map page.
     pub fn pointer(&self, random: &mut Random) -> u16 {
-        let page = match random.below(12) {
+        let page = match random.below(9) {
             0 => 128 + random.below(384) as u16,
             _ => random.pick(&MAP_PAGES),
         };
@@ -173,12 +173,12 @@ fn push_place(to: &mut Vec<(u16, u16)>, place: u32, word: u16) {
     }
 }
 
-/// N of any size, small ones often; M mostly a map page.
+/// N of any size, often small, or such that all pages are simple or all but the last; M mostly a map page.
 fn map_register(random: &mut Random) -> u16 {
-    let simple = match random.below(10) {
-        0..=2 => 0,
-        3..=7 => 1 + random.below(5) as u16,
-        8 => 127,
+    let last_simple = match random.below(10) {
+        0..=2 => 127,
+        3..=7 => random.below(5) as u16,
+        8 => 126,
         _ => random.below(128) as u16,
     };
     let page = match random.below(60) {
@@ -187,7 +187,7 @@ fn map_register(random: &mut Random) -> u16 {
         2 => random.below(128) as u16,
         _ => random.pick(&MAP_PAGES),
     };
-    (simple << 9) | page
+    (last_simple << 9) | page
 }
 
 fn keys(random: &mut Random) -> Keys {

@@ -6,7 +6,7 @@ use super::lines::trap_line;
 use super::plan::{Plan, MAP_PAGES};
 use super::Generator;
 use crate::instruction::Kind;
-use crate::maps::{pointed_place, route, simple_pages, Route};
+use crate::maps::{is_simple, pointed_place, route, Route};
 use crate::registers::word_at;
 use crate::state::{Unit, KTEM, KTUM, VECTORS};
 
@@ -199,8 +199,9 @@ impl Generator {
     fn mapped_page(&mut self) -> (bool, u16) {
         let tags = self.machine.unit.tags();
         let mut tag = self.random.pick(tags);
-        let shared = simple_pages(self.machine.unit.registers()[KTUM]) | 0o200;
-        if let Some(&held) = tags.iter().find(|&&tag| u16::from(tag) >= shared) {
+        let ktum = self.machine.unit.registers()[KTUM];
+        let shared = |&&tag: &&u8| tag & 0o200 != 0 && !is_simple(ktum, u16::from(tag & 0o177));
+        if let Some(&held) = tags.iter().find(shared) {
             // A page reached by a pointer, so that pointers get stored into as well.
             tag = self.random.pick(&[tag, held]);
         }

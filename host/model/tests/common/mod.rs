@@ -24,12 +24,13 @@ impl Rig {
         Rig::mapped_of(Unit::fresh())
     }
 
-    /// Maps for both modes, unpaged. KTEM: N 128, M 1. KTUM: N 4, M 5.
+    /// Maps for both modes, unpaged. KTEM: N 127, M 1. KTUM: N 4, M 5.
     ///
     /// Exec pages: 1 open and public (page 2), 2 open and private (page 3), 3 read-only and
     /// public (page 4), 4 not resident, 127 the registers, public.
     /// User pages: 0 open and public (page 10o), 1 open and private (page 11o), 2 the registers,
-    /// public, 3 read-only and public (page 12o), 4 shared, open and public (page 13o).
+    /// public, 3 read-only and public (page 12o), 4 open and public (page 14o), 5 shared, open and
+    /// public (page 13o).
     pub fn mapped_of(unit: Unit) -> Rig {
         let mut rig = Rig::of(unit);
         for (place, word) in [
@@ -42,13 +43,14 @@ impl Rig {
             (0o005402, 0o120011),
             (0o005404, 0o160777),
             (0o005406, 0o140012),
-            (0o005410, 0o003007),
+            (0o005410, 0o160014),
+            (0o005412, 0o003007),
             (0o007406, 0o160013),
         ] {
             rig.put(place, word);
         }
         rig.write(0o177614, 0o004005);
-        rig.write(0o177616, 0o000001);
+        rig.write(0o177616, 0o177001);
         rig
     }
 
