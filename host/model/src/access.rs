@@ -126,7 +126,7 @@ pub(crate) fn unpaged_physical(address: u16) -> u32 {
     u32::from(address) | top
 }
 
-fn length_fits(length: usize) -> bool {
+pub(crate) fn length_fits(length: usize) -> bool {
     length & 1 == 0 && length <= LONGEST_MEMORY
 }
 

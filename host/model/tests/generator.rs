@@ -102,6 +102,35 @@ fn walks_run_off_memory_at_each_of_their_words() {
     }
 }
 
+/// Walks of this name, 200 or more, and some with each of these N.
+fn assert_walked(stats: &Stats, cells: u64, walk: &str, ends: &[u16]) {
+    let count = stats.counted(walk);
+    assert!(count >= 200, "{cells} cells: {walk}, {count} times");
+    for n in ends {
+        let count = stats.counted(&format!("{walk}, N = {n}"));
+        assert!(count >= 30, "{cells} cells: {walk}, N = {n}, {count} times");
+    }
+}
+
+/// "its statistics count walks at p = N (exec simple, user simple) and at p = N + 1 (exec per process, user shared), at least 200 of each"
+/// "with N = 0, 1, 126, 127 among them": exec page 0 is never walked, and N = 127 has no page beyond.
+#[test]
+fn walks_are_made_on_both_sides_of_the_boundary() {
+    let walks: [(&str, &[u16]); 4] = [
+        ("walk at p = N, exec simple", &[1, 126, 127]),
+        ("walk at p = N + 1, exec per process", &[0, 1, 126]),
+        ("walk at p = N, user simple", &[0, 1, 126, 127]),
+        ("walk at p = N + 1, user shared", &[0, 1, 126]),
+    ];
+    for cells in BOTH {
+        reached(1, cells, |stats| {
+            for (walk, ends) in walks {
+                assert_walked(stats, cells, walk, ends);
+            }
+        });
+    }
+}
+
 /// "10 comes wherever an access is paged .. Unpaged accesses are never answered 10, nor are interrupt, trap and INIT."
 #[test]
 fn answer_10_comes_in_every_paged_mode_and_in_no_other() {

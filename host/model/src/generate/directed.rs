@@ -1,5 +1,6 @@
 //! Short scripts towards paths that chance alone reaches too seldom.
 
+use super::boundary::boundary_pages;
 use super::kinds::*;
 use super::plan::USER_MAP;
 use super::Generator;
@@ -32,6 +33,9 @@ impl Generator {
         }
         if self.random.one_in(20) {
             return self.upper_words();
+        }
+        if self.random.one_in(12) {
+            return self.both_sides_of_the_boundary();
         }
         match (self.machine.unit.user_mode(), self.random.below(12)) {
             (_, 0..=1) => self.whole_instruction(),
@@ -247,6 +251,32 @@ impl Generator {
             }
             (_, 2) => self.push_access([DATI, FETCH, 0], base | offset, 0),
             _ => self.push_access(kind, base | offset | odd, data),
+        }
+    }
+
+    /// All cells emptied by a map register's store, then its last simple page and the first beyond it walked for: KTEM's directly, KTUM's by
+    /// a user directly and by exec through the window.
+    fn both_sides_of_the_boundary(&mut self) {
+        let Some(base) = self.register_base(DESTINATION) else {
+            return self.traps();
+        };
+        let user = self.machine.unit.user_mode();
+        let by_window = !user && self.random.one_in(2);
+        let (offset, register) = if user || by_window {
+            (KTUM_OFFSET, self.plan.ktum)
+        } else {
+            (KTEM_OFFSET, self.plan.ktem)
+        };
+        self.push_access([DATO, SERVICE, 0], base | offset, register);
+        for page in boundary_pages(register) {
+            let mut address = (page << 9) | (2 * self.random.below(6) as u16);
+            if by_window {
+                self.push_access([DATO, SERVICE, 0], base | KTAD_OFFSET, address);
+                address = base | KTWN_OFFSET;
+            }
+            let kind = self.kind();
+            let data = self.data();
+            self.push_access(kind, address, data);
         }
     }
 

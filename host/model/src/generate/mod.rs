@@ -1,6 +1,7 @@
 //! A generator of random bench input that keeps its own unit, so as to choose each line by the present state.
 
 mod actions;
+mod boundary;
 mod directed;
 mod few_walks;
 mod kinds;
@@ -14,6 +15,7 @@ mod watch;
 
 use crate::bench::{parse, Line, Machine};
 use crate::state::{Unit, Wait};
+pub use boundary::{boundary_walks, BoundaryWalk};
 pub use few_walks::FewWalks;
 pub use noise::Noise;
 use plan::Plan;

@@ -1,5 +1,6 @@
 //! An episode's plan: the map registers, the pages in play, and the map words they get.
 
+use super::boundary::boundary_pages;
 use super::random::Random;
 use crate::maps::{pointed_place, route, Route};
 use crate::state::FEW_CELLS;
@@ -53,10 +54,7 @@ impl Plan {
         } else {
             map_register(random)
         };
-        let mut pages: Vec<u16> = vec![0, 1, 2, 3, 4, 5, 126, 127, USER_MAP, EXEC_MAP];
-        for _ in 0..2 {
-            pages.push(random.below(128) as u16);
-        }
+        let mut pages = pages_in_play(random, [ktum, ktem]);
         let exec_registers = if exec_zero_registers { 0 } else { random.pick(&[127, 127, 127, 5]) };
         let user_page = random.pick(&pages);
         let weak_registers = 6 + random.below(8) as u16;
@@ -160,6 +158,16 @@ impl Plan {
             }
         }
     }
+}
+
+/// The lowest and the highest pages, those that lead to the maps, two more, and those at the boundary of each map register.
+fn pages_in_play(random: &mut Random, map_registers: [u16; 2]) -> Vec<u16> {
+    let mut pages = vec![0, 1, 2, 3, 4, 5, 126, 127, USER_MAP, EXEC_MAP];
+    for _ in 0..2 {
+        pages.push(random.below(128) as u16);
+    }
+    pages.extend(map_registers.into_iter().flat_map(boundary_pages));
+    pages
 }
 
 /// A physical page that holds no map.

@@ -1,5 +1,6 @@
 //! What the summary looks at before and after each call.
 
+use super::boundary::{boundary_walks, BoundaryWalk};
 use super::stats::{filled_all_cells, went_round, Stats};
 use super::stats::{CELLS_FILLED, COUNTER_ROUND, PAST_ALL_WORDS, UPPER_WORDS};
 use crate::access::{unpaged_physical, Operation, Request};
@@ -16,6 +17,8 @@ pub(super) struct Watch {
     request: Option<Request>,
     mode: &'static str,
     look_up: Option<&'static str>,
+    /// The walks at a boundary, each with N.
+    boundary: Vec<(BoundaryWalk, u16)>,
     window: Option<&'static str>,
     /// Where step 10 looks for the target, and how the access got there.
     target: Option<(u32, &'static str)>,
@@ -39,6 +42,7 @@ impl Watch {
             request,
             mode,
             look_up: None,
+            boundary: boundary_walks(before, memory, call),
             window: None,
             target: None,
             held_places: Vec::new(),
@@ -110,6 +114,7 @@ impl Watch {
         if let Some(look_up) = self.look_up {
             stats.count(format!("look-up: {look_up}"));
         }
+        self.count_boundary(stats);
         if let Some(window) = self.window {
             stats.count(format!("window {window}: answer {}", reply.answer));
         }
@@ -131,6 +136,16 @@ impl Watch {
         }
         if let (0, Some(physical)) = (reply.answer, reply.physical) {
             self.count_target(stats, &request, physical);
+        }
+    }
+
+    /// The walks at a boundary, and apart from them those with the least and the greatest N.
+    fn count_boundary(&self, stats: &mut Stats) {
+        for (walk, last_simple) in &self.boundary {
+            let name = walk.name();
+            stats.count(name);
+            let at_an_end = matches!(last_simple, 0 | 1 | 126 | 127);
+            stats.count_if(at_an_end, format!("{name}, N = {last_simple}"));
         }
     }
 
