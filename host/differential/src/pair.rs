@@ -3,7 +3,7 @@
 use crate::words::words_of;
 use kt11b::{NumberedAccess, Register};
 use kt11b_model::bench::Call;
-use kt11b_model::generate::{filled_all_cells, went_round};
+use kt11b_model::generate::{boundary_walks, filled_all_cells, went_round};
 
 /// More than the longest memory, so that lengths that are too large can be lent too.
 pub const BUFFER: usize = kt11b::LONGEST_MEMORY + 4096;
@@ -34,6 +34,8 @@ pub struct Counts {
     pub filled: u64,
     /// The counter stepped from the unit's last cell to 10o.
     pub rounds: u64,
+    /// Finished walks at a boundary: exec simple at p = N, exec per process at N + 1, user simple at N, user shared at N + 1.
+    pub boundary: [u64; 4],
 }
 
 impl Counts {
@@ -44,6 +46,9 @@ impl Counts {
         }
         self.filled += other.filled;
         self.rounds += other.rounds;
+        for (all, one) in self.boundary.iter_mut().zip(other.boundary) {
+            *all += one;
+        }
     }
 }
 
@@ -104,6 +109,9 @@ impl Pair {
     /// reply.
     pub fn call(&mut self, call: Call, length: usize) -> kt11b::Reply {
         let before = self.model;
+        for (walk, _) in boundary_walks(&before, &self.model_memory[..length], call) {
+            self.counts.boundary[walk as usize] += 1;
+        }
         let wanted = self.call_model(call, length);
         let given = self.call_library(call, length);
         let parts = (given.answer_number(), given.data(), given.physical());

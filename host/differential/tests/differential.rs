@@ -27,20 +27,23 @@ fn runs(seeds: std::ops::Range<u64>, cells: u64, steps: usize, lengths: Lengths)
     for seed in seeds {
         all.add(run(seed, cells, steps, lengths));
     }
-    let Counts { answers, filled, rounds } = all;
+    let Counts { answers, filled, rounds, boundary } = all;
     let calls = answers.iter().sum::<u64>();
     println!("{cells} cells, {lengths:?}: {calls} calls, by answer {answers:?}");
     println!("{cells} cells, {lengths:?}: all filled {filled} times, round {rounds} times");
+    println!("{cells} cells, {lengths:?}: walks at p = N and N + 1, exec then user {boundary:?}");
     assert!(answers.iter().all(|&count| count >= 1_000), "{cells} cells: {answers:?}");
     all
 }
 
 /// "The generator must fill all 24 cells and go round often: print how often it did."
+/// "its statistics count walks at p = N (exec simple, user simple) and at p = N + 1 (exec per process, user shared)"
 #[test]
 fn with_the_memory_of_the_bench_program() {
     for cells in [8, 24] {
-        let Counts { filled, rounds, .. } = runs(1..121, cells, 5_000, Lengths::Bench);
+        let Counts { filled, rounds, boundary, .. } = runs(1..121, cells, 5_000, Lengths::Bench);
         assert!(filled >= 500 && rounds >= 1_000, "{filled}, {rounds}");
+        assert!(boundary.iter().all(|&count| count >= 1_000), "{boundary:?}");
     }
 }
 
@@ -48,7 +51,9 @@ fn with_the_memory_of_the_bench_program() {
 #[test]
 fn with_lengths_of_every_kind() {
     for cells in [8, 24] {
-        let Counts { filled, rounds, .. } = runs(1_000..1_500, cells, 1_000, Lengths::Varied);
+        let Counts { filled, rounds, boundary, .. } =
+            runs(1_000..1_500, cells, 1_000, Lengths::Varied);
         assert!(filled >= 50 && rounds >= 500, "{filled}, {rounds}");
+        assert!(boundary.iter().all(|&count| count >= 200), "{boundary:?}");
     }
 }
