@@ -78,7 +78,7 @@ pub fn high7(w: u16) -> u8
     (w / 512 % 128) as u8
 }
 
-// "pages 0 to N are simple" (T-02; source 4.2.2.1): the one boundary of both maps
+// "pages 0 to N are simple" (T-02; source 4.2.2.1, 4.2.2.2): the one boundary of both maps
 pub fn simple(register: u16, p: u8) -> bool
     ensures { λ r. ⌜ r ≡ simple register p ⌝ }
 {

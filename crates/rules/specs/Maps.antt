@@ -45,9 +45,9 @@ publicBit w = bitIn w 0o40000
 unfoldable pub writeBit : ℕ → Bool
 writeBit w = bitIn w 0o20000
 
--- "So pages 0 to N are simple, N=0 means one page, and N=127 means all." (T-02) N is the number of the last simple page, as LNE is in source 4.2.2.1:
--- "Exec address 0 through 1000₈ * LNE + 777 are in Exec simple space". Source 3.3.2.2, "the first N entries", does not decide here. Exec pages go by
--- KTEM's N and user pages by KTUM's; this is the one boundary of both.
+-- "So pages 0 to N are simple, N=0 means one page, and N=127 means all." (T-02) N is the number of the last simple page, as LNE is in source 4.2.2.1,
+-- "Exec address 0 through 1000₈ * LNE + 777 are in Exec simple space", and LNU in 4.2.2.2, "entries 0 through LNU of this Page Map". Source 3.3.2.2, "the
+-- first N entries", does not decide here. Exec pages go by KTEM's N and user pages by KTUM's; this is the one boundary of both.
 unfoldable pub simple : ℕ → ℕ → Bool
 simple r p = leb p (high7 r)
 

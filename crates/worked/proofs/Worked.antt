@@ -121,7 +121,7 @@ oneCell = A 2 1 0 0o177616 0o177001 ∷ A 2 1 0 0o177576 2 ∷ A 0 1 0 0o177600 
 pub record Emptied : Type 0 where
   pub filled : tagsAfter oneCell ≡ 0o177 ∷ replicate 7 0
   pub by-ktum : tagsAfter (oneCell ++ (A 3 1 1 0o177614 0o000002 ∷ [])) ≡ replicate 8 0
-  pub by-ktem : tagsAfter (oneCell ++ (A 2 1 0 0o177616 0o000002 ∷ [])) ≡ replicate 8 0
+  pub by-ktem : tagsAfter (oneCell ++ (A 2 1 0 0o177616 0o177002 ∷ [])) ≡ replicate 8 0
   pub by-violation : tagsAfter (startUser ++ (A 0 1 0 0o001000 0 ∷ [])) ≡ replicate 8 0
 
 pub emptied-cells : Emptied

@@ -25,7 +25,7 @@ pub record Boundary : Type 0 where
   -- "with N=4, page 4 is simple and page 5 is the first beyond": KTUM 004005o
   pub with-four : (simple 0o004005 4 ≡ true) × (simple 0o004005 5 ≡ false)
 
--- of every memory, map registers and page, exec page 0 apart, which is never walked
+-- Of every memory, map registers and page. No access walks exec page 0 (`ExecZeroUncelled`); the rows hold of its number too.
 pub record WalksByBoundary : Type 0 where
   -- exec pages go by KTEM's N: up to it the map word is at 512·M(KTEM)+256+2p, beyond it at 512·M(KTUM)+2p
   pub exec-simple :
