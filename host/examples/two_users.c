@@ -27,7 +27,7 @@ static unsigned short unit[KT11B_UNIT_WORDS];
 /* What the monitor keeps of a user who is not running. */
 struct user {
     const char *name;
-    unsigned short map;         /* for KTUM: N, the last simple page, in the high 7 bits, the map's own page in the low 9 */
+    unsigned short map;         /* for KTUM: N, the last simple page, in the high 7 bits; the map's physical page in the low 9 */
     unsigned short pc, ps, sp;
     unsigned short r0;
 };

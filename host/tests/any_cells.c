@@ -266,8 +266,9 @@ static int names_no_map(unsigned long map_register)
 }
 
 /*
- * Makes an access a store that begins paging; but first one that mends a map register. With one that leads nowhere a long run would
- * come to little else than answer 10, since paged it finds no way back to the registers.
+ * Makes an access a store: one that mends a map register which names no map, or, where both name one, the store that begins paging.
+ * With a register that leads nowhere a long run would come to little else than answer 10, since paged it finds no way back to the
+ * registers.
  */
 static void make_paging_begin(struct access *made)
 {

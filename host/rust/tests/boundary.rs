@@ -183,7 +183,8 @@ const OF_SECTION_5_2: [Worked; 8] = [
     Worked { ktum: 0o177001, page: 127, words: &[(0o001776, FOUND)], ..USER },
 ];
 
-/// A walk that read any other word would end in answer 5, since all others are 0.
+/// A walk that ended at any other word would not come to the page that is found: all others are 0, which is a 5, or pointers, which name
+/// other pages.
 #[test]
 fn worked_places() {
     for Worked { user, ktum, ktem, page, words } in WITH_N_4.into_iter().chain(OF_SECTION_5_2) {

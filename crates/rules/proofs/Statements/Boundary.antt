@@ -5,11 +5,13 @@ use native.Mathlib.Omega.{arith}
 use mathlib.Core.Path.{_≡_, refl}
 use mathlib.Core.Logic.{_↔_}
 use mathlib.Core.Bool.{true, false}
-use borrow.Author.Tests.{leb-true, le-leb, lt-leb}
-use Rattle.rules.specs.Types.{Maps}
+use lib.Dec.{ltb}
+use lib.ListN.{length}
+use borrow.Author.Tests.{leb-true, le-leb, lt-leb, lt-ltb}
+use Rattle.rules.specs.Types.{Maps, Reads, Walk}
 use Rattle.rules.specs.Choice.{pick}
-use Rattle.rules.specs.Memory.{Memory}
-use Rattle.rules.specs.Maps.{low9, high7, simple, upperAt, lowerAt, pointedAt, wordWalk, pointerWalk, execWalk, userWalk, walkOf}
+use Rattle.rules.specs.Memory.{Memory, wordAt}
+use Rattle.rules.specs.Maps.{low9, high7, simple, upperAt, lowerAt, pointedAt, unlessOff, wordWalk, followed, pointerWalk, execWalk, userWalk, walkOf}
 use Rattle.rules.proofs.Laws.Choices.{pick-true, pick-false}
 
 -- of every map register and page
@@ -39,6 +41,11 @@ pub record WalksByBoundary : Type 0 where
       (m : Memory) (r : Maps) (p : ℕ) → high7 (r .ktum) < p → walkOf m r true p ≡ pointerWalk m (512 * low9 (r .ktum) + 256 + 2 * p)
   -- a pointer's high 7 bits are an entry's number and no boundary: "the map word is at 512·m+256+2n"
   pub pointer : (w : ℕ) → pointedAt w ≡ 512 * low9 w + 256 + 2 * high7 w
+  -- the word at a pointer's place is the pointer, and the word that it leads to is the map word, "never a pointer again"
+  pub pointed :
+      (m : Memory) (from : ℕ) → from < length m
+      → pointerWalk m from
+      ≡ unlessOff m (pointedAt (wordAt m from)) (Walk.Finished (wordAt m (pointedAt (wordAt m from))) (Reads.Pointed from (pointedAt (wordAt m from))))
 
 -- Proofs -----------------------------------------------------------------------------------------------------------------
 
@@ -69,7 +76,7 @@ boundary =
     }
 
 pub walks-by-boundary : WalksByBoundary
-unfolding pick walkOf execWalk userWalk upperAt lowerAt pointedAt
+unfolding pick walkOf execWalk userWalk pointerWalk followed unlessOff upperAt lowerAt pointedAt
 walks-by-boundary =
     record {
       exec-simple = λ m r p h. pick-true (simple (r .ktem) p) _ _ (simple-to (r .ktem) p h);
@@ -77,4 +84,5 @@ walks-by-boundary =
       user-simple = λ m r p h. pick-true (simple (r .ktum) p) _ _ (simple-to (r .ktum) p h);
       user-shared = λ m r p h. pick-false (simple (r .ktum) p) _ _ (beyond (r .ktum) p h);
       pointer = λ w. refl;
+      pointed = λ m from h. pick-true (ltb from (length m)) _ _ (lt-ltb from (length m) h);
     }

@@ -13,8 +13,8 @@ const REGISTER_PAGE: u16 = 0o777;
 pub const USER_MAP: u16 = 20;
 pub const EXEC_MAP: u16 = 21;
 
-/// Pages to sweep over in turn, more than there are cells, so that each one walks. No map word of another page in play, and no word that
-/// a pointer mostly leads to, stands at their places.
+/// Pages to sweep over in turn, more than there are cells, so that each one walks. Seldom does a map word of another page in play, or a
+/// word that a pointer leads to, stand at their places.
 const SWEPT_PAGES: std::ops::Range<u16> = 32..64;
 
 /// How often a page is resident, public and write-enabled, in percent.

@@ -1,6 +1,6 @@
 //! What the summary looks at before and after each call.
 
-use super::boundary::{boundary_walks, BoundaryWalk};
+use super::boundary::{boundary_walks, goes_to_window, BoundaryWalk};
 use super::stats::{filled_all_cells, went_round, Stats};
 use super::stats::{CELLS_FILLED, COUNTER_ROUND, PAST_ALL_WORDS, UPPER_WORDS};
 use crate::access::{unpaged_physical, Operation, Request};
@@ -277,15 +277,10 @@ fn look_up(before: &Unit, memory: &[u8], request: &Request) -> &'static str {
 /// Where a paged access looks for its target, if nothing refuses it before.
 fn paged_target(before: &Unit, memory: &[u8], request: &Request) -> Option<(u32, &'static str)> {
     let mut probe = *before;
-    let user = before.user_mode();
-    let outer = probe.reach(memory, request, user, request.address).ok()?;
-    if probe.breaks_privacy(request, &outer) {
-        return None;
-    }
-    let physical = outer.physical(request.address);
-    let target = Target::at(physical, memory.len(), before.cells());
-    if target != Target::Window || request.fetch() {
-        return Some((physical, "paged"));
+    let outer = probe.reach(memory, request, before.user_mode(), request.address).ok()?;
+    if !goes_to_window(before, memory, request, &outer) {
+        let passes = !before.breaks_privacy(request, &outer);
+        return passes.then(|| (outer.physical(request.address), "paged"));
     }
     let address = before.registers()[KTAD];
     let inner = probe.reach(memory, request, true, address).ok()?;
