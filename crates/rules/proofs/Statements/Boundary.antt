@@ -1,13 +1,13 @@
--- Where the simple pages end (T-02): "pages 0 to N are simple, N=0 means one page, and N=127 means all", N the high 7 bits of a map register; and what
--- a walk reads on either side of that boundary, with the places written out.
+-- Where the simple pages end (T-02): "pages 0 to N are simple, N=0 means one page, and N=127 means all", N the high 7 bits of a map register; which
+-- word a walk reads on either side of that boundary, with the places written out; and what it comes to by the words that it reads.
 use Prim.Native.Nat.{ℕ, _+_, _*_, _≤_, _<_}
 use native.Mathlib.Omega.{arith}
-use mathlib.Core.Path.{_≡_, refl}
+use mathlib.Core.Path.{_≡_, refl, _∙_}
 use mathlib.Core.Logic.{_↔_}
 use mathlib.Core.Bool.{true, false}
 use lib.Dec.{ltb}
 use lib.ListN.{length}
-use borrow.Author.Tests.{leb-true, le-leb, lt-leb, lt-ltb}
+use borrow.Author.Tests.{leb-true, le-leb, lt-leb, lt-ltb, le-ltb}
 use Rattle.rules.specs.Types.{Maps, Reads, Walk}
 use Rattle.rules.specs.Choice.{pick}
 use Rattle.rules.specs.Memory.{Memory, wordAt}
@@ -39,13 +39,19 @@ pub record WalksByBoundary : Type 0 where
       (m : Memory) (r : Maps) (p : ℕ) → p ≤ high7 (r .ktum) → walkOf m r true p ≡ wordWalk m (512 * low9 (r .ktum) + 256 + 2 * p)
   pub user-shared :
       (m : Memory) (r : Maps) (p : ℕ) → high7 (r .ktum) < p → walkOf m r true p ≡ pointerWalk m (512 * low9 (r .ktum) + 256 + 2 * p)
+
+-- Of every memory and place: what a walk comes to that reads a map word there, or a pointer. A word at or beyond L is not there (T-01: the walk ran off memory).
+pub record WordsRead : Type 0 where
+  pub word : (m : Memory) (at : ℕ) → at < length m → wordWalk m at ≡ Walk.Finished (wordAt m at) (Reads.Direct at)
+  pub word-off : (m : Memory) (at : ℕ) → length m ≤ at → wordWalk m at ≡ Walk.Off
   -- a pointer's high 7 bits are an entry's number and no boundary: "the map word is at 512·m+256+2n"
   pub pointer : (w : ℕ) → pointedAt w ≡ 512 * low9 w + 256 + 2 * high7 w
-  -- the word at a pointer's place is the pointer, and the word that it leads to is the map word, "never a pointer again"
+  -- the word that a pointer leads to is the map word, "never a pointer again"
   pub pointed :
-      (m : Memory) (from : ℕ) → from < length m
-      → pointerWalk m from
-      ≡ unlessOff m (pointedAt (wordAt m from)) (Walk.Finished (wordAt m (pointedAt (wordAt m from))) (Reads.Pointed from (pointedAt (wordAt m from))))
+      (m : Memory) (from : ℕ) → from < length m → pointedAt (wordAt m from) < length m
+      → pointerWalk m from ≡ Walk.Finished (wordAt m (pointedAt (wordAt m from))) (Reads.Pointed from (pointedAt (wordAt m from)))
+  pub pointed-off : (m : Memory) (from : ℕ) → from < length m → length m ≤ pointedAt (wordAt m from) → pointerWalk m from ≡ Walk.Off
+  pub pointer-off : (m : Memory) (from : ℕ) → length m ≤ from → pointerWalk m from ≡ Walk.Off
 
 -- Proofs -----------------------------------------------------------------------------------------------------------------
 
@@ -76,13 +82,31 @@ boundary =
     }
 
 pub walks-by-boundary : WalksByBoundary
-unfolding pick walkOf execWalk userWalk pointerWalk followed unlessOff upperAt lowerAt pointedAt
+unfolding pick walkOf execWalk userWalk upperAt lowerAt
 walks-by-boundary =
     record {
       exec-simple = λ m r p h. pick-true (simple (r .ktem) p) _ _ (simple-to (r .ktem) p h);
       exec-per-process = λ m r p h. pick-false (simple (r .ktem) p) _ _ (beyond (r .ktem) p h);
       user-simple = λ m r p h. pick-true (simple (r .ktum) p) _ _ (simple-to (r .ktum) p h);
       user-shared = λ m r p h. pick-false (simple (r .ktum) p) _ _ (beyond (r .ktum) p h);
+    }
+
+is-there : (m : Memory) (at : ℕ) (w : Walk) → at < length m → unlessOff m at w ≡ w
+unfolding unlessOff
+is-there m at w h = pick-true (ltb at (length m)) w Walk.Off (lt-ltb at (length m) h)
+
+is-off : (m : Memory) (at : ℕ) (w : Walk) → length m ≤ at → unlessOff m at w ≡ Walk.Off
+unfolding unlessOff
+is-off m at w h = pick-false (ltb at (length m)) w Walk.Off (le-ltb at (length m) h)
+
+pub words-read : WordsRead
+unfolding wordWalk pointerWalk followed pointedAt upperAt
+words-read =
+    record {
+      word = λ m at h. is-there m at _ h;
+      word-off = λ m at h. is-off m at _ h;
       pointer = λ w. refl;
-      pointed = λ m from h. pick-true (ltb from (length m)) _ _ (lt-ltb from (length m) h);
+      pointed = λ m from h g. is-there m from _ h ∙ is-there m (pointedAt (wordAt m from)) _ g;
+      pointed-off = λ m from h g. is-there m from _ h ∙ is-off m (pointedAt (wordAt m from)) _ g;
+      pointer-off = λ m from h. is-off m from _ h;
     }
