@@ -91,8 +91,8 @@ static void make_unit(void)
 }
 
 /*
- * A user in FCN 2: by KTUM pages 0 to 20 (octal) are simple, with the map in physical page 5. Page 1 is private and open, page 2 is not
- * resident, page 3 has no write key, page 4 is public. The words fetched are RESET in page 1 and a plain one in page 4.
+ * A user in FCN 2: by KTUM pages 0 to 20 (octal) are simple, with the map in physical page 5. Page 1 is private and open, page 2
+ * is not resident, page 3 has no write key, page 4 is public. The words fetched are RESET in page 1 and a plain one in page 4.
  */
 static void start_user(void)
 {

@@ -58,7 +58,7 @@ fn looking_up(unit: &Unit, memory: &[u8], call: Call) -> Option<Request> {
     looks_up.then_some(request)
 }
 
-/// An access whose page passes, and whose target is the window: it goes on to the page of KTAD.
+/// Whether an access that has reached its page goes on to the page of KTAD: its target is the window, it is no fetch, and privacy passes.
 pub(super) fn goes_to_window(unit: &Unit, memory: &[u8], request: &Request, outer: &Entry) -> bool {
     let target = Target::at(outer.physical(request.address), memory.len(), unit.cells());
     target == Target::Window && !request.fetch() && !unit.breaks_privacy(request, outer)

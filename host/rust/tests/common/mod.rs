@@ -36,8 +36,8 @@ impl Rig {
         rig
     }
 
-    /// A user in FCN 2: KTUM N=20 (octal, as all numbers here), M=5, so pages 0 to 20 are simple; user page 1 open (page 20), page 2 not resident, page 3
-    /// read-only (page 21).
+    /// A user in FCN 2: KTUM N=20 (octal, as all numbers here), M=5, so pages 0 to 20 are simple; user page 1 open (page 20),
+    /// page 2 not resident, page 3 read-only (page 21).
     pub fn user() -> Rig {
         Rig::user_with_cells(CELLS_8)
     }
