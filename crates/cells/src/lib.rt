@@ -22,20 +22,25 @@ const EMPTY: Cell = Cell { tag: 0, word: 0 };
 // The number of the first cell, as the counter counts them.
 const FIRST: u16 = 0o10;
 
-// Which cell holds a page, the first where several do, out of those that a unit of this size has.
+// Which cell holds a page, the first where several do, out of those that a unit of this size has. Each is compared, whatever the others gave:
+// "simultaneous comparison of the 8 8-bit words it contains against the seek data" (source 4.1.2.1).
+// From the last cell to the first, each match replaces the one gathered before it, so that the lowest place stays: a host's words may hold a
+// tag twice, and the first is promised.
 pub fn cell_of(list: [Cell; ROOM], size: Size, tag: u16) -> Found
     ensures { λ r. ⌜ r ≡ foundFrom 0 (map tagIn (take (countOf size) list)) tag ⌝ }
 {
     let count = sizes::count_of(size);
-    let mut i = 0;
-    while i < count {
+    let mut gathered = Found::Missing;
+    let mut left = count;
+    while 0 < left {
+        let i = left - 1;
         let held = list[i];
         if tag == held.tag {
-            return Found::At(i);
+            gathered = Found::At(i);
         }
-        i += 1;
+        left -= 1;
     }
-    Found::Missing
+    gathered
 }
 
 // A cell by its place; past the last one that a unit of this size has, an empty cell.

@@ -1,37 +1,51 @@
--- The search for a tag: nothing before place i has it, so the search of the unit's cells is the search from i on.
-use Prim.Native.Nat.{ℕ, _≤_, _-_}
+-- The search for a tag, from the last cell to the first: what is gathered is the search from the last compared cell on.
+use Prim.Native.Nat.{ℕ, _+_, _-_, _≤_, _<_}
 use mathlib.Core.Path.{_≡_, _∙_, sym, ap}
-use mathlib.Core.List.{List, map}
+use mathlib.Core.Logic.{⊎-elim}
+use mathlib.Core.List.{List}
+use native.Mathlib.Omega.{arith}
 use borrow.Author.Needs.{needs}
-use lib.ListN.{length, take}
+use lib.ListN.{length, getD, take}
 use Rattle.rules.specs.declared.Cell.{Cell}
 use Rattle.rules.specs.declared.Size.{Size}
 use Rattle.rules.specs.declared.Found.{Found}
 use Rattle.rules.specs.Unit.{countOf, emptyCell}
-use Rattle.rules.specs.Registers.{foundFrom}
-use Rattle.rules.specs.Maps.{tagIn}
 use Rattle.cells.proofs.Laws.{soughtFrom, first-here, first-later, first-nowhere}
 use Rattle.cells.proofs.cell_of.Statement.{statement}
 use Rattle.cells.proofs.cell_of.Tie as tie
 
--- the whole search, by the number that was counted
-abbrev whole : List Cell → ℕ → ℕ → Found
-whole l n tag = foundFrom 0 (map tagIn (take n l)) tag
+-- one cell more, out of those that are left
+module _ (l : List Cell) (n left tag : ℕ) (fits : n ≤ length l) (inside : left ≤ n) (more : 0 < left) where
+  matched : tag ≡ getD l (left - 1) emptyCell .tag → Found.At (left - 1) ≡ soughtFrom (take n l) (left - 1) tag
+  matched h = sym (first-here l n (left - 1) tag fits (omega arith) h)
 
-of-the-unit : (l : List Cell) (s : Size) (n tag : ℕ) (f : Found) → n ≡ countOf s → whole l n tag ≡ f → f ≡ whole l (countOf s) tag
-of-the-unit l s n tag f e h = sym h ∙ ap (λ (x : ℕ). whole l x tag) e
+  unmatched : (tag ≡ getD l (left - 1) emptyCell .tag → ⊥) → soughtFrom (take n l) left tag ≡ soughtFrom (take n l) (left - 1) tag
+  unmatched h =
+      let next : left ≡ left - 1 + 1 = omega arith in
+      ap (λ (i : ℕ). soughtFrom (take n l) i tag) next ∙ sym (first-later l n (left - 1) tag fits (omega arith) h)
+
+-- no cell is left of those that were counted
+all-compared : (l : List Cell) (s : Size) (n left tag : ℕ)
+    → n ≡ countOf s → left ≤ 0 → soughtFrom (take n l) left tag ≡ soughtFrom (take (countOf s) l) 0 tag
+all-compared l s n left tag e none = let z : left ≡ 0 = omega arith in rw (e, z)
 
 abbrev Inv-loop : tie.InvT-loop
-Inv-loop tag list count i₀ i = (i ≤ count) × (count ≤ length list) × (whole list count tag ≡ soughtFrom (take count list) i tag)
+Inv-loop tag list count gathered₀ left₀ gathered left =
+    (left ≤ count) × (count ≤ length list) × (gathered ≡ soughtFrom (take count list) left tag)
 
 abbrev μ-loop : tie.MeasureT-loop
-μ-loop tag list count i₀ i = count - i
+μ-loop tag list count gathered₀ left₀ gathered left = left
 
 count-of-requires : tie.Need-count-of-requires Inv-loop μ-loop
 count-of-requires c κs = search needs
 
 loop-holds : tie.Need-loop-holds Inv-loop μ-loop
-loop-holds c = search needs
+loop-holds c =
+    let n = c .count-of .result in
+    (search needs, search needs, sym (first-nowhere (c .before .args .t1) n n _ (search needs) (search needs)))
+
+sub-i : tie.Need-sub-i Inv-loop μ-loop
+sub-i c = search needs
 
 mul-held : tie.Need-mul-held Inv-loop μ-loop
 mul-held c = search needs
@@ -39,45 +53,31 @@ mul-held c = search needs
 array-copy-out-held : tie.Need-array-copy-out-held Inv-loop μ-loop
 array-copy-out-held c = search needs
 
-returns : tie.Need-returns Inv-loop μ-loop
-unfolding emptyCell
-returns c =
-    of-the-unit _ _ _ _ _ (c .before .before .before .before .before .count-of .ensures .0)
-    (c .before .before .before .before .loop .inv .2
-    ∙ first-here _ _ _ _ (c .before .before .before .before .loop .inv .1) (c .before .before .before .loop-test .taken) (c .if1 .taken))
-
-add-i : tie.Need-add-i Inv-loop μ-loop
-add-i c = search needs
+sub-left : tie.Need-sub-left Inv-loop μ-loop
+sub-left c = search needs
 
 loop-less : tie.Need-loop-less Inv-loop μ-loop
 loop-less c = search needs
 
 loop-again : tie.Need-loop-again Inv-loop μ-loop
 unfolding emptyCell
-loop-again c = (
-  search needs,
-  c .before .before .before .before .loop .inv .1,
-  c .before .before .before .before .loop .inv .2
-      ∙ first-later _ _ _ _ (c .before .before .before .before .loop .inv .1) (c .before .before .before .loop-test .taken) (c .if1 .left),
-)
+loop-again c =
+    let inv = c .before .before .before .before .loop .inv in
+    let more : 0 < c .before .before .before .before .loop .left = search needs in (
+      search needs,
+      inv .1,
+      ⊎-elim
+          (λ w. w .1 ∙ matched _ _ _ _ (inv .1) (inv .0) more (w .0 .taken))
+          (λ w. w .1 ∙ inv .2 ∙ unmatched _ _ _ _ (inv .1) (inv .0) more (w .0 .left))
+          (c .if1 .came),
+    )
 
-returns-2 : tie.Need-returns-2 Inv-loop μ-loop
-returns-2 c =
-    of-the-unit _ _ _ _ _ (c .before .before .count-of .ensures .0)
-    (c .before .loop .inv .2 ∙ first-nowhere _ _ _ _ (c .before .loop .inv .1) (c .loop-test .left))
+returns : tie.Need-returns Inv-loop μ-loop
+returns c = c .before .loop .inv .2 ∙ all-compared _ _ _ _ _ (c .before .before .count-of .ensures .0) (c .loop-test .left)
 
 pub cell-of-spec : {M : Type 1} → statement M
 cell-of-spec =
     tie.close
     (tie.spec
-    Inv-loop
-    μ-loop
-    count-of-requires
-    loop-holds
-    mul-held
-    array-copy-out-held
-    returns
-    add-i
-    loop-less
-    loop-again
-    returns-2)
+    Inv-loop μ-loop count-of-requires loop-holds sub-i mul-held
+    array-copy-out-held sub-left loop-less loop-again returns)
