@@ -159,6 +159,13 @@ impl Unit {
         &self.words[..self.cells]
     }
 
+    /// Writes over a cell that the unit has, as a host can in the words of its unit. No call puts a tag into two cells; a host may.
+    pub fn put_cell(&mut self, cell: usize, tag: u8, word: u16) {
+        assert!(cell < self.cells, "the unit has no cell {cell}");
+        self.tags[cell] = tag;
+        self.words[cell] = word;
+    }
+
     /// The replacement counter: "10o to 17o and round with 8 cells, 10o to 37o and round with 24".
     pub fn counter(&self) -> u8 {
         self.counter
