@@ -31,7 +31,7 @@ all-compared l s n left tag e none = let z : left ≡ 0 = omega arith in rw (e, 
 
 abbrev Inv-loop : tie.InvT-loop
 Inv-loop tag list count gathered₀ left₀ gathered left =
-    (left ≤ count) × (count ≤ length list) × (gathered ≡ soughtFrom (take count list) left tag)
+    (gathered ≡ soughtFrom (take count list) left tag) × (left ≤ count) × (count ≤ length list)
 
 abbrev μ-loop : tie.MeasureT-loop
 μ-loop tag list count gathered₀ left₀ gathered left = left
@@ -42,7 +42,7 @@ count-of-requires c κs = search needs
 loop-holds : tie.Need-loop-holds Inv-loop μ-loop
 loop-holds c =
     let n = c .count-of .result in
-    (search needs, search needs, sym (first-nowhere (c .before .args .t1) n n _ (search needs) (search needs)))
+    (sym (first-nowhere (c .before .args .t1) n n _ (search needs) (search needs)), search needs, search needs)
 
 sub-i : tie.Need-sub-i Inv-loop μ-loop
 sub-i c = search needs
@@ -64,16 +64,16 @@ unfolding emptyCell
 loop-again c =
     let inv = c .before .before .before .before .loop .inv in
     let more : 0 < c .before .before .before .before .loop .left = search needs in (
-      search needs,
-      inv .1,
       ⊎-elim
-          (λ w. w .1 ∙ matched _ _ _ _ (inv .1) (inv .0) more (w .0 .taken))
-          (λ w. w .1 ∙ inv .2 ∙ unmatched _ _ _ _ (inv .1) (inv .0) more (w .0 .left))
+          (λ w. w .1 ∙ matched _ _ _ _ (inv .2) (inv .1) more (w .0 .taken))
+          (λ w. w .1 ∙ inv .0 ∙ unmatched _ _ _ _ (inv .2) (inv .1) more (w .0 .left))
           (c .if1 .came),
+      search needs,
+      inv .2,
     )
 
 returns : tie.Need-returns Inv-loop μ-loop
-returns c = c .before .loop .inv .2 ∙ all-compared _ _ _ _ _ (c .before .before .count-of .ensures .0) (c .loop-test .left)
+returns c = c .before .loop .inv .0 ∙ all-compared _ _ _ _ _ (c .before .before .count-of .ensures .0) (c .loop-test .left)
 
 pub cell-of-spec : {M : Type 1} → statement M
 cell-of-spec =
