@@ -425,7 +425,7 @@ impl Unit {
         if self.fcn() == 3 {
             self.ktcs = (self.ktcs & !FCN) | 2;
         }
-        self.empty_cell(fault.tag);
+        self.empty_cells_of(fault.tag);
         Reply::bare(fault.answer)
     }
 }

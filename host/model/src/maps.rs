@@ -143,7 +143,7 @@ impl Unit {
         Ok(Entry { word, exec_zero: false })
     }
 
-    /// The cell that holds this tag. Each loop has a length that the compiler knows, since this is the part of a hit that is timed.
+    /// The first cell that holds this tag. Each loop has a length that the compiler knows, since this is the part of a hit that is timed.
     #[inline]
     pub(crate) fn hit(&self, tag: u8) -> Option<usize> {
         let holds = |&held: &u8| held == tag;

@@ -159,7 +159,7 @@ impl Unit {
         &self.words[..self.cells]
     }
 
-    /// Writes over a cell that the unit has, as a host can in the words of its unit. No call puts a tag into two cells; a host may.
+    /// Writes over a cell that the unit has, as a host can in the words of its unit. No call puts a page into two cells; a host may.
     pub fn put_cell(&mut self, cell: usize, tag: u8, word: u16) {
         assert!(cell < self.cells, "the unit has no cell {cell}");
         self.tags[cell] = tag;
@@ -262,14 +262,16 @@ impl Unit {
         self.counter = FIRST_CELL;
     }
 
-    /// Empties the cell that holds the page with this tag, if one does; the counter stays. Exec page 0, whose tag means empty, has no cell.
-    pub(crate) fn empty_cell(&mut self, tag: u8) {
+    /// Empties each cell that holds the page with this tag; the counter stays. Exec page 0, whose tag means empty, has no cell.
+    pub(crate) fn empty_cells_of(&mut self, tag: u8) {
         if tag == 0 {
             return;
         }
-        if let Some(cell) = self.tags().iter().position(|&held| held == tag) {
-            self.tags[cell] = 0;
-            self.words[cell] = 0;
+        for cell in 0..self.cells {
+            if self.tags[cell] == tag {
+                self.tags[cell] = 0;
+                self.words[cell] = 0;
+            }
         }
     }
 }

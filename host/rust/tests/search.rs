@@ -104,3 +104,13 @@ fn a_tag_past_the_last_cell() {
         assert_eq!(parts(read(&mut rig, 0o002000)), done(0o043000), "24 cells have a ninth");
     }
 }
+
+/// A host may write any 16 bits as a tag: one that agrees in the low 8 alone is another tag.
+#[test]
+fn the_whole_tag_is_compared() {
+    for fetched in FETCHED {
+        let held = [(0, 0o000401, 0o160041), (6, 0o000001, 0o160042), (7, 0o100001, 0o160043)];
+        let mut rig = rig_with(CELLS_8, fetched, &held);
+        assert_eq!(parts(read(&mut rig, 0o001000)), done(0o042000), "cell 6");
+    }
+}
