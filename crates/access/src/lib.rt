@@ -2,13 +2,13 @@
 ghost use Rattle.std.specs.Prelude.{◌≡◌};
 ghost use Rattle.rules.specs.Choice.{pick};
 ghost use Rattle.rules.specs.Program.{run};
-ghost use Rattle.rules.specs.Order.{afterWait, accessed};
+ghost use Rattle.rules.specs.Order.{after_wait, accessed};
 
 use rules::{Access, Answer, Cells, Core, Due, Job, Maps, Ran};
 
 // Nothing is due: the steps go on unpaged, or, after step 4, paged.
 fn stepped(m: &[u8], c: Core, r: Maps, q: Access, k: Cells) -> Ran
-    ensures { result ≡ run m.now r (afterWait m.now k.size c r q Due.Steps) k }
+    ensures { result ≡ run m.now r (after_wait m.now k.size c r q Due.Steps) k }
 {
     if pages::unpaged(c.ktcs.fcn, q.state) {
         return unpaged::unpaged_from(m, c, r, q, k);
@@ -26,7 +26,7 @@ fn stepped(m: &[u8], c: Core, r: Maps, q: Access, k: Cells) -> Ran
 
 // "2. The wait (2); a due sequence access ends here."
 fn after_wait(m: &[u8], c: Core, r: Maps, q: Access, due: Due, k: Cells) -> Ran
-    ensures { result ≡ run m.now r (afterWait m.now k.size c r q due) k }
+    ensures { result ≡ run m.now r (after_wait m.now k.size c r q due) k }
 {
     let kept = c.kept;
     match due {

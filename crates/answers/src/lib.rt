@@ -1,12 +1,12 @@
 // What the host sees of an answer: its number, its data and its physical address (01, "What comes back").
 ghost use Rattle.std.specs.Prelude.{◌≡◌};
-ghost use Rattle.rules.specs.Answers.{shownAs, faultShown, shown};
+ghost use Rattle.rules.specs.Answers.{shown_as, fault_shown, shown};
 
 use rules::{Answer, Fault, Physical, Returned};
 
 // An answer with no data and no physical address.
 fn bare(number: u16) -> Returned
-    ensures { result ≡ shownAs number 0 Physical.Nowhere }
+    ensures { result ≡ shown_as number 0 Physical.Nowhere }
 {
     Returned {
         number,
@@ -17,7 +17,7 @@ fn bare(number: u16) -> Returned
 
 // "4-8 | AV, RV, WV, PV, IV", "9 | time-out"; "10 takes 9's place at step 6" (T-01)
 pub fn fault_shown(f: Fault) -> Returned
-    ensures { result ≡ faultShown f }
+    ensures { result ≡ fault_shown f }
 {
     match f {
         Fault::OddAddress => bare(4),

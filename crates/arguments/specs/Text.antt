@@ -8,5 +8,5 @@ bytes_of []ˢ = []
 bytes_of (c ∷ˢ s) = code c ∷ bytes_of s
 
 -- "`./kt11b [--cells N] [FILE ..]`. .. The count is an argument of the program `bench`" (T-08)
-unfoldable pub optionText : List ℕ
-optionText = bytes_of "--cells"
+unfoldable pub option_text : List ℕ
+option_text = bytes_of "--cells"

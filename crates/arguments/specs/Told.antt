@@ -2,16 +2,16 @@
 use Rattle.std.specs.Prelude.{ℕ, List, ◌++◌}
 use Rattle.rules.specs.declared.Size.TheVariants.{Eight, TwentyFour}
 use Rattle.rules.specs.declared.Making.TheVariants.{OtherCount}
-use Rattle.rules.specs.Unit.{countOf}
-use Rattle.rules.specs.Answers.{makingShown}
+use Rattle.rules.specs.Unit.{count_of}
+use Rattle.rules.specs.Answers.{making_shown}
 use Rattle.rowtext.specs.Digits.{decimal}
-use Rattle.arguments.specs.Text.{bytes_of, optionText}
+use Rattle.arguments.specs.Text.{bytes_of, option_text}
 
 -- the refusal by its number, and the numbers that are not refused
-unfoldable pub refusalText : List ℕ
-refusalText =
-    bytes_of "bench: " ++ decimal (makingShown OtherCount).number ++ bytes_of ": a unit is made with "
-    ++ decimal (countOf Eight) ++ bytes_of " or " ++ decimal (countOf TwentyFour) ++ bytes_of " cells\n"
+unfoldable pub refusal_text : List ℕ
+refusal_text =
+    bytes_of "bench: " ++ decimal (making_shown OtherCount).number ++ bytes_of ": a unit is made with "
+    ++ decimal (count_of Eight) ++ bytes_of " or " ++ decimal (count_of TwentyFour) ++ bytes_of " cells\n"
 
-unfoldable pub usageText : List ℕ
-usageText = bytes_of "bench: usage: bench [" ++ optionText ++ bytes_of " N]\n"
+unfoldable pub usage_text : List ℕ
+usage_text = bytes_of "bench: usage: bench [" ++ option_text ++ bytes_of " N]\n"

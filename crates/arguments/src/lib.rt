@@ -1,7 +1,7 @@
 // What the bench program's arguments ask for, and what it says where that is no unit.
 ghost use Rattle.std.specs.Prelude.{◌≡◌};
-ghost use Rattle.arguments.specs.Asked.{same, byCount, askedFor};
-ghost use Rattle.arguments.specs.Told.{refusalText, usageText};
+ghost use Rattle.arguments.specs.Asked.{same, by_count, asked_for};
+ghost use Rattle.arguments.specs.Told.{refusal_text, usage_text};
 
 use fieldtext::Figures;
 use rules::Making;
@@ -35,7 +35,7 @@ fn same(a: &[u8], b: &[u8]) -> bool
 
 // "it is the proved `size_of` that refuses" (T-08)
 fn by_count(count: Figures) -> Asked
-    ensures { result ≡ byCount count }
+    ensures { result ≡ by_count count }
 {
     match count {
         Figures::Worth(cells) => Asked::Unit(sizes::size_of(cells)),
@@ -45,7 +45,7 @@ fn by_count(count: Figures) -> Asked
 
 // By how many words the program was started with, its own name among them, and the two after its name.
 pub fn asked_for(words: usize, option: &[u8], count: &[u8]) -> Asked
-    ensures { result ≡ askedFor words option.now count.now }
+    ensures { result ≡ asked_for words option.now count.now }
 {
     if words < 2 {
         return Asked::Unit(sizes::size_of(USUAL));
@@ -61,14 +61,14 @@ pub fn asked_for(words: usize, option: &[u8], count: &[u8]) -> Asked
 
 // What is said of a number that no unit is made with.
 pub fn refusal() -> [u8; 45]
-    ensures { result ≡ refusalText }
+    ensures { result ≡ refusal_text }
 {
     *b"bench: 30: a unit is made with 8 or 24 cells\n"
 }
 
 // What is said of arguments that the program does not know.
 pub fn usage() -> [u8; 32]
-    ensures { result ≡ usageText }
+    ensures { result ≡ usage_text }
 {
     *b"bench: usage: bench [--cells N]\n"
 }

@@ -1,13 +1,13 @@
 -- What one line of the bench program's input does, and what it prints (01, the bench program).
 use Rattle.std.specs.Prelude.{ℕ, List, []}
 use Rattle.rules.specs.declared.Call.{Call}
-use Rattle.rules.specs.Memory.{Memory, storeWord}
+use Rattle.rules.specs.Memory.{Memory, store_word}
 use Rattle.rules.specs.Calls.{After, call_of}
 use Rattle.linetext.specs.declared.Line.{Line}
-use Rattle.linetext.specs.Asked.{accessIn}
-use Rattle.rowtext.specs.Row.{badOf}
+use Rattle.linetext.specs.Asked.{access_in}
+use Rattle.rowtext.specs.Row.{bad_of}
 use Rattle.tally.specs.declared.Bench.{Bench}
-use Rattle.tally.specs.Tally.{next, callRow, lineCounted, callCounted}
+use Rattle.tally.specs.Tally.{next, call_row, line_counted, call_counted}
 
 -- what a line leaves, and what it prints
 pub record Done : Type 0 where
@@ -15,15 +15,15 @@ pub record Done : Type 0 where
   pub memory : Memory
   pub prints : List ℕ
 
-unfoldable pub callDone : Bench → After → Done
-callDone b a =
-    record { bench = callCounted b a.reply.unit; memory = a.memory; prints = callRow (next b.calls) a.reply }
+unfoldable pub call_done : Bench → After → Done
+call_done b a =
+    record { bench = call_counted b a.reply.unit; memory = a.memory; prints = call_row (next b.calls) a.reply }
 
 -- "`W` address value (even, one memory word)", behind the unit's back; the calls; "A bad line prints `BAD`, tab, its decimal line number."
-unfoldable pub lineDone : Memory → Bench → Line → Done
-lineDone m b (Line.Store at w) = record { bench = lineCounted b; memory = storeWord m at w; prints = [] }
-lineDone m b (Line.Access f) = callDone b (call_of m b.unit (Call.Access (accessIn f)))
-lineDone m b Line.Interrupt = callDone b (call_of m b.unit Call.Interrupt)
-lineDone m b (Line.Trap v) = callDone b (call_of m b.unit (Call.Trap v))
-lineDone m b Line.Init = callDone b (call_of m b.unit Call.Init)
-lineDone m b Line.Bad = record { bench = lineCounted b; memory = m; prints = badOf (next b.lines) }
+unfoldable pub line_done : Memory → Bench → Line → Done
+line_done m b (Line.Store at w) = record { bench = line_counted b; memory = store_word m at w; prints = [] }
+line_done m b (Line.Access f) = call_done b (call_of m b.unit (Call.Access (access_in f)))
+line_done m b Line.Interrupt = call_done b (call_of m b.unit Call.Interrupt)
+line_done m b (Line.Trap v) = call_done b (call_of m b.unit (Call.Trap v))
+line_done m b Line.Init = call_done b (call_of m b.unit Call.Init)
+line_done m b Line.Bad = record { bench = line_counted b; memory = m; prints = bad_of (next b.lines) }

@@ -1,16 +1,16 @@
 // What one line of the bench program's input does, and what it prints.
 ghost use Rattle.std.specs.Prelude.{◌≡◌};
 ghost use Rattle.tally.specs.Tally.{Holds};
-ghost use Rattle.benchline.specs.Bench.{lineDone};
+ghost use Rattle.benchline.specs.Bench.{line_done};
 
 use linetext::Line;
 use tally::{Bench, Told};
 
 // What one line does to the unit and to memory, and what it prints.
 pub fn line(b: Bench, m: &mut [u8], asks: Line) -> Told
-    ensures bench { result.bench ≡ (lineDone m.old b asks).bench }
-    ensures memory { m.new ≡ (lineDone m.old b asks).memory }
-    ensures text { Holds result.text (lineDone m.old b asks).prints }
+    ensures bench { result.bench ≡ (line_done m.old b asks).bench }
+    ensures memory { m.new ≡ (line_done m.old b asks).memory }
+    ensures text { Holds result.text (line_done m.old b asks).prints }
 {
     let u = b.unit;
     match asks {

@@ -13,36 +13,36 @@ use Rattle.rules.proofs.Laws.Choices.{picked}
 use Rattle.fieldtext.specs.Cut.{onto}
 use Rattle.linetext.specs.Line.{line_of}
 use Rattle.gathering.specs.declared.Gather.{Gather}
-use Rattle.gathering.specs.Gather.{nothingYet, pushOf, pushAll, gathered}
+use Rattle.gathering.specs.Gather.{nothing_yet, push_of, push_all, gathered}
 use Rattle.gathering.proofs.Whole.{whole}
-use Rattle.rowtext.specs.Row.{headerOf}
+use Rattle.rowtext.specs.Row.{header_of}
 use Rattle.tally.specs.declared.Bench.{Bench}
-use Rattle.benchline.specs.Bench.{Done, lineDone}
+use Rattle.benchline.specs.Bench.{Done, line_done}
 use Rattle.benchwork.specs.declared.Progress.{Progress}
-use Rattle.benchwork.specs.Whole.{lines_of, printed, benchMemory, freshBench, outputOf}
-use Rattle.benchwork.specs.Bytes.{Stepped, freshProgress, lineEnded, byteAdded, stepped, ended, printedFrom}
+use Rattle.benchwork.specs.Whole.{lines_of, printed, bench_memory, fresh_bench, output_of}
+use Rattle.benchwork.specs.Bytes.{Stepped, fresh_progress, line_ended, byte_added, stepped, ended, printed_from}
 
 -- A gather that was pushed into ------------------------------------------------------------------------------------------
 
-push-last : (g : Gather) (p : List ℕ) (x : ℕ) → pushAll g (p ++ x ∷ []) ≡ pushOf (pushAll g p) x
-unfolding pushAll
-push-last g [] x = refl
-push-last g (b ∷ p) x = push-last (pushOf g b) p x
+push_last : (g : Gather) (p : List ℕ) (x : ℕ) → push_all g (p ++ x ∷ []) ≡ push_of (push_all g p) x
+unfolding push_all
+push_last g [] x = refl
+push_last g (b ∷ p) x = push_last (push_of g b) p x
 
 -- is not empty
-push-some : (g : Gather) (x : ℕ) → 0 < (pushOf g x).len
-unfolding pushOf
-push-some g x = picked (λ (h : Gather). 0 < h.len) (ltb g.len 40) _ _ (λ e. omega arith) (λ e. omega arith)
+push_some : (g : Gather) (x : ℕ) → 0 < (push_of g x).len
+unfolding push_of
+push_some g x = picked (λ (h : Gather). 0 < h.len) (ltb g.len 40) _ _ (λ e. omega arith) (λ e. omega arith)
 
 -- and stays so
-some-stays : (g : Gather) (s : List ℕ) → 0 < g.len → 0 < (pushAll g s).len
-unfolding pushAll
-some-stays g [] h = h
-some-stays g (b ∷ s) h = some-stays (pushOf g b) s (push-some g b)
+some_stays : (g : Gather) (s : List ℕ) → 0 < g.len → 0 < (push_all g s).len
+unfolding push_all
+some_stays g [] h = h
+some_stays g (b ∷ s) h = some_stays (push_of g b) s (push_some g b)
 
 gathered-some : (x : ℕ) (p : List ℕ) → 0 < (gathered (x ∷ p)).len
-unfolding gathered pushAll
-gathered-some x p = some-stays (pushOf nothingYet x) p (push-some nothingYet x)
+unfolding gathered push_all
+gathered-some x p = some_stays (push_of nothing_yet x) p (push_some nothing_yet x)
 
 -- Lines of which a part was read -----------------------------------------------------------------------------------------
 
@@ -56,15 +56,15 @@ unfolding lines_from lines_of pick onto
 newline-ends [] x s e = simp e
 newline-ends (b ∷ p) x s e = ap (onto b) (newline-ends p x s e)
 
-other-joins : (p : List ℕ) (x : ℕ) (s : List ℕ) → eqb x 10 ≡ false → lines_from p (x ∷ s) ≡ lines_from (p ++ x ∷ []) s
+other_joins : (p : List ℕ) (x : ℕ) (s : List ℕ) → eqb x 10 ≡ false → lines_from p (x ∷ s) ≡ lines_from (p ++ x ∷ []) s
 unfolding lines_from lines_of pick
-other-joins [] x s e = simp e
-other-joins (b ∷ p) x s e = ap (onto b) (other-joins p x s e)
+other_joins [] x s e = simp e
+other_joins (b ∷ p) x s e = ap (onto b) (other_joins p x s e)
 
-end-ends : (b : ℕ) (p : List ℕ) → lines_from (b ∷ p) [] ≡ (b ∷ p) ∷ []
+end_ends : (b : ℕ) (p : List ℕ) → lines_from (b ∷ p) [] ≡ (b ∷ p) ∷ []
 unfolding lines_from lines_of onto
-end-ends b [] = refl
-end-ends b (x ∷ p) = ap (onto b) (end-ends x p)
+end_ends b [] = refl
+end_ends b (x ∷ p) = ap (onto b) (end_ends x p)
 
 -- The output -------------------------------------------------------------------------------------------------------------
 
@@ -82,31 +82,31 @@ module _ (m : Memory) (b : Bench) (p : List ℕ) (x : ℕ) where
   amid : Progress
   amid = record { bench = b; gather = gathered p }
 
-  line_step : eqb x 10 ≡ true → stepped m amid x ≡ lineEnded (lineDone m b (line_of p))
+  line_step : eqb x 10 ≡ true → stepped m amid x ≡ line_ended (line_done m b (line_of p))
   unfolding stepped pick amid
   line_step e = simp (e, whole p)
 
-  byte_step : eqb x 10 ≡ false → stepped m amid x ≡ byteAdded m amid x
+  byte_step : eqb x 10 ≡ false → stepped m amid x ≡ byte_added m amid x
   unfolding stepped pick
   byte_step e = simp e
 
 -- from any byte on, with the bytes p of a line gathered
 from_bytes :
     (s : List ℕ) (m : Memory) (b : Bench) (p : List ℕ)
-    → printedFrom m (record { bench = b; gather = gathered p }) s ≡ printed m b (lines_from p s)
-unfolding printedFrom ended gathered pushAll nothingYet lines_from lines_of printed pick lineEnded byteAdded amid
+    → printed_from m (record { bench = b; gather = gathered p }) s ≡ printed m b (lines_from p s)
+unfolding printed_from ended gathered push_all nothing_yet lines_from lines_of printed pick line_ended byte_added amid
 from_bytes [] m b [] = refl
-from_bytes [] m b (x ∷ p) = last_line m b x p ∙ ap (printed m b) (sym (end-ends x p))
+from_bytes [] m b (x ∷ p) = last_line m b x p ∙ ap (printed m b) (sym (end_ends x p))
 from_bytes (x ∷ s) m b p = by (λ m b p. from_bytes s m b p) (eqb x 10) refl
   where
     after : Stepped → List ℕ
-    after t = t.prints ++ printedFrom t.memory t.progress s
+    after t = t.prints ++ printed_from t.memory t.progress s
 
     done : Done
-    done = lineDone m b (line_of p)
+    done = line_done m b (line_of p)
 
     Rest : Type 0
-    Rest = (m : Memory) (b : Bench) (p : List ℕ) → printedFrom m (record { bench = b; gather = gathered p }) s ≡ printed m b (lines_from p s)
+    Rest = (m : Memory) (b : Bench) (p : List ℕ) → printed_from m (record { bench = b; gather = gathered p }) s ≡ printed m b (lines_from p s)
 
     by : Rest → (t : Bool) → eqb x 10 ≡ t → after (stepped m (amid m b p x) x) ≡ printed m b (lines_from p (x ∷ s))
     by rest true e =
@@ -115,11 +115,11 @@ from_bytes (x ∷ s) m b p = by (λ m b p. from_bytes s m b p) (eqb x 10) refl
         ∙ ap (printed m b) (sym (newline-ends p x s e))
     by rest false e =
         ap after (byte_step m b p x e)
-        ∙ ap (λ (g : Gather). printedFrom m (record { bench = b; gather = g }) s) (sym (push-last nothingYet p x))
+        ∙ ap (λ (g : Gather). printed_from m (record { bench = b; gather = g }) s) (sym (push_last nothing_yet p x))
         ∙ rest m b (p ++ x ∷ [])
-        ∙ ap (printed m b) (sym (other-joins p x s e))
+        ∙ ap (printed m b) (sym (other_joins p x s e))
 
 -- whatever the input, and with a unit of either size
-pub whole-output : (s : Size) (input : List ℕ) → headerOf ++ printedFrom benchMemory (freshProgress s) input ≡ outputOf s input
-unfolding outputOf freshProgress gathered pushAll lines_from
-whole-output s input = ap (λ (o : List ℕ). headerOf ++ o) (from_bytes input benchMemory (freshBench s) [])
+pub whole_output : (s : Size) (input : List ℕ) → header_of ++ printed_from bench_memory (fresh_progress s) input ≡ output_of s input
+unfolding output_of fresh_progress gathered push_all lines_from
+whole_output s input = ap (λ (o : List ℕ). header_of ++ o) (from_bytes input bench_memory (fresh_bench s) [])

@@ -1,7 +1,7 @@
 // The bench program's work, from bytes of input to bytes of output; reading and writing are left to the program.
 ghost use Rattle.std.specs.Prelude.{◌≡◌};
 ghost use Rattle.tally.specs.Tally.{Holds};
-ghost use Rattle.benchwork.specs.Bytes.{freshProgress, stepped, ended};
+ghost use Rattle.benchwork.specs.Bytes.{fresh_progress, stepped, ended};
 
 use gathering::Gather;
 use rowtext::Text;
@@ -24,7 +24,7 @@ pub struct Said {
 
 // The bench before its first byte, with a fresh unit of either size.
 pub fn start(size: Size) -> Progress
-    ensures { result ≡ freshProgress size }
+    ensures { result ≡ fresh_progress size }
 {
     let bench = Bench {
         unit: unit::fresh(size),

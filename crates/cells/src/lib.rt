@@ -2,9 +2,9 @@
 // Every function takes any counter and any index. A unit has the first so many of the list as its size says: past them there is nothing to
 // read. There is room for more, and what stands there is no matter.
 ghost use Rattle.std.specs.Prelude.{◌≡◌, map, ◌-◌, length, get_or, set, take, replicate};
-ghost use Rattle.rules.specs.Unit.{countOf, emptyCell, emptied};
-ghost use Rattle.rules.specs.Registers.{found_from, peeked, cellStored, padStored};
-ghost use Rattle.rules.specs.Maps.{tagIn, stepped, filled, holds, cellForgotten, forgotten};
+ghost use Rattle.rules.specs.Unit.{count_of, empty_cell, emptied};
+ghost use Rattle.rules.specs.Registers.{found_from, peeked, cell_stored, pad_stored};
+ghost use Rattle.rules.specs.Maps.{tag_in, stepped, filled, holds, cell_forgotten, forgotten};
 
 use rules::{Associative, Cell, Cells, Found, Part, ROOM, Size};
 
@@ -19,7 +19,7 @@ const FIRST: u16 = 0o10;
 // From the last cell to the first, each match replaces the one gathered before it, so that the lowest place stays: a host's words may hold a
 // tag twice, and the first is promised.
 pub fn cell_of(list: [Cell; ROOM], size: Size, tag: u16) -> Found
-    ensures { result ≡ found_from 0 (map tagIn (take (countOf size) list)) tag }
+    ensures { result ≡ found_from 0 (map tag_in (take (count_of size) list)) tag }
 {
     let count = sizes::count_of(size);
     let mut gathered = Found::Missing;
@@ -37,7 +37,7 @@ pub fn cell_of(list: [Cell; ROOM], size: Size, tag: u16) -> Found
 
 // A cell by its place; past the last one that a unit of this size has, an empty cell.
 pub fn cell_at(list: [Cell; ROOM], size: Size, i: usize) -> Cell
-    ensures { result ≡ get_or (take (countOf size) list) i emptyCell }
+    ensures { result ≡ get_or (take (count_of size) list) i empty_cell }
 {
     if i < sizes::count_of(size) {
         list[i]
@@ -69,7 +69,7 @@ fn cell_named(counter: u16) -> usize
 
 // "then the counter steps 10o to 17o and round", or to 37o with 24 cells: the last is 7 more than there are cells.
 fn next_counter(size: Size, counter: u16) -> u16
-    ensures { result ≡ stepped (countOf size) counter }
+    ensures { result ≡ stepped (count_of size) counter }
 {
     if (counter as usize) < 7 + sizes::count_of(size) {
         counter + 1
@@ -95,7 +95,7 @@ pub fn filled(k: Cells, tag: u16, word: u16) -> Cells
 
 // Every cell that holds the page is emptied, so that nothing rests on its being in one cell only.
 fn list_forgotten(mut list: [Cell; ROOM], tag: u16) -> [Cell; ROOM]
-    ensures { result ≡ map (cellForgotten tag) list }
+    ensures { result ≡ map (cell_forgotten tag) list }
 {
     let mut i = 0;
     while i < ROOM {
@@ -114,7 +114,7 @@ fn holds(held: Cell, tag: u16) -> bool
 }
 
 fn cell_forgotten(held: Cell, tag: u16) -> Cell
-    ensures { result ≡ cellForgotten tag held }
+    ensures { result ≡ cell_forgotten tag held }
 {
     if holds(held, tag) { EMPTY } else { held }
 }
@@ -135,7 +135,7 @@ pub fn forgotten(k: Cells, tag: u16) -> Cells
 
 // As many empty cells as the list has; it comes along for its length, which is known of an array and not of a field.
 fn list_emptied(list: [Cell; ROOM]) -> [Cell; ROOM]
-    ensures { result ≡ replicate (length list) emptyCell }
+    ensures { result ≡ replicate (length list) empty_cell }
 {
     [EMPTY; ROOM]
 }
@@ -155,7 +155,7 @@ pub fn emptied(k: Cells) -> Cells
 }
 
 fn cell_stored(held: Cell, p: Part, v: u16) -> Cell
-    ensures { result ≡ cellStored held p v }
+    ensures { result ≡ cell_stored held p v }
 {
     if held.tag == 0 {
         held
@@ -169,7 +169,7 @@ fn cell_stored(held: Cell, p: Part, v: u16) -> Cell
 
 // "A store into a scratchpad word leaves the tag, and does nothing in an empty cell (H)."
 pub fn pad_stored(k: Cells, i: usize, p: Part, v: u16) -> Cells
-    ensures { result ≡ padStored k i p v }
+    ensures { result ≡ pad_stored k i p v }
 {
     let list = k.list;
     let size = k.size;

@@ -8,8 +8,8 @@ use native.Mathlib.Omega.{arith}
 use lib.ListN.{length, get_or, set, take, drop, length-set, length-append, drop_of_length-le, length-map, get_or-map}
 use lib.Seq.{drop-cons, get_or-set_same, take-set-le, drop-drop, get_or-drop, take-suc-set, take_all, append_snoc, take-set-lt, drop-set-lt, set-append_left, length-take-le, paste, paste-zero, paste-suc, length-paste, take-paste, drop-paste}
 use Rattle.rules.specs.declared.Cell.{Cell}
-use Rattle.rules.specs.Unit.{emptyCell}
-use Rattle.rules.specs.Maps.{tagIn}
+use Rattle.rules.specs.Unit.{empty_cell}
+use Rattle.rules.specs.Maps.{tag_in}
 use Rattle.coding.specs.Coding.{cells_in, word_in}
 
 -- Reading --------------------------------------------------------------------------------------------------------------------------
@@ -40,7 +40,7 @@ module _ (n s v : ℕ) (w : List ℕ) (l : List Cell) (i : ℕ) (many : length l
 
 -- words into which the first i tags are written from place s on, and the first i words from place v on
 abbrev pub writing : ℕ → ℕ → List Cell → List ℕ → ℕ → List ℕ
-writing s v l w i = paste (paste w s (map tagIn l) i) v (map word_in l) i
+writing s v l w i = paste (paste w s (map tag_in l) i) v (map word_in l) i
 
 -- a store before the place where a list is written
 set_before : (w : List ℕ) (at : ℕ) (s : List ℕ) (n j a : ℕ) → j < at → at ≤ length w → set (paste w at s n) j a ≡ paste (set w j a) at s n
@@ -54,63 +54,63 @@ set_before w at s n j a before long =
 
 module _ (s v : ℕ) (l : List Cell) (w : List ℕ) where
   pub written_none : w ≡ writing s v l w 0
-  written_none = paste-zero w s (map tagIn l) ∙ paste-zero (paste w s (map tagIn l) 0) v (map word_in l)
+  written_none = paste-zero w s (map tag_in l) ∙ paste-zero (paste w s (map tag_in l) 0) v (map word_in l)
 
   module _ (i : ℕ) (inside : i < length l) (apart : s + length l ≤ v) (long : v + length l ≤ length w) where
     -- the tag of cell i, and then its word
-    tag-written : set (paste w s (map tagIn l) i) (s + i) (get_or l i emptyCell).tag ≡ paste w s (map tagIn l) (suc i)
-    unfolding tagIn
+    tag-written : set (paste w s (map tag_in l) i) (s + i) (get_or l i empty_cell).tag ≡ paste w s (map tag_in l) (suc i)
+    unfolding tag_in
     tag-written =
-        ap (set (paste w s (map tagIn l) i) (s + i)) (sym (get_or-map tagIn l i emptyCell))
-        ∙ paste-suc w s (map tagIn l) i (tagIn emptyCell) (omega (arith, inside, apart, long)) (rw (length-map l tagIn) inside)
+        ap (set (paste w s (map tag_in l) i) (s + i)) (sym (get_or-map tag_in l i empty_cell))
+        ∙ paste-suc w s (map tag_in l) i (tag_in empty_cell) (omega (arith, inside, apart, long)) (rw (length-map l tag_in) inside)
 
-    length-tagged : (n : ℕ) → n ≤ length l → length (paste w s (map tagIn l) n) ≡ length w
-    length-tagged n h = length-paste w s (map tagIn l) n (omega (arith, h, apart, long)) (rw (length-map l tagIn) h)
+    length_tagged : (n : ℕ) → n ≤ length l → length (paste w s (map tag_in l) n) ≡ length w
+    length_tagged n h = length-paste w s (map tag_in l) n (omega (arith, h, apart, long)) (rw (length-map l tag_in) h)
 
-    word-written :
-        set (paste (paste w s (map tagIn l) (suc i)) v (map word_in l) i) (v + i) (get_or l i emptyCell).word
-        ≡ paste (paste w s (map tagIn l) (suc i)) v (map word_in l) (suc i)
+    word_written :
+        set (paste (paste w s (map tag_in l) (suc i)) v (map word_in l) i) (v + i) (get_or l i empty_cell).word
+        ≡ paste (paste w s (map tag_in l) (suc i)) v (map word_in l) (suc i)
     unfolding word_in
-    word-written =
-        ap (set (paste (paste w s (map tagIn l) (suc i)) v (map word_in l) i) (v + i)) (sym (get_or-map word_in l i emptyCell))
-        ∙ paste-suc (paste w s (map tagIn l) (suc i)) v (map word_in l) i (word_in emptyCell)
-        (rw (length-tagged (suc i) inside) (omega (arith, inside, long))) (rw (length-map l word_in) inside)
+    word_written =
+        ap (set (paste (paste w s (map tag_in l) (suc i)) v (map word_in l) i) (v + i)) (sym (get_or-map word_in l i empty_cell))
+        ∙ paste-suc (paste w s (map tag_in l) (suc i)) v (map word_in l) i (word_in empty_cell)
+        (rw (length_tagged (suc i) inside) (omega (arith, inside, long))) (rw (length-map l word_in) inside)
 
-    pub written-here :
-        set (set (writing s v l w i) (s + i) (get_or l i emptyCell).tag) (v + i) (get_or l i emptyCell).word ≡ writing s v l w (i + 1)
-    written-here =
-        let fits : v ≤ length (paste w s (map tagIn l) i) = rw (length-tagged i (omega (arith, inside))) (omega (arith, long)) in
-        ap (λ (x : List ℕ). set x (v + i) (get_or l i emptyCell).word)
-        (set_before (paste w s (map tagIn l) i) v (map word_in l) i (s + i) (get_or l i emptyCell).tag (omega (arith, inside, apart)) fits
+    pub written_here :
+        set (set (writing s v l w i) (s + i) (get_or l i empty_cell).tag) (v + i) (get_or l i empty_cell).word ≡ writing s v l w (i + 1)
+    written_here =
+        let fits : v ≤ length (paste w s (map tag_in l) i) = rw (length_tagged i (omega (arith, inside))) (omega (arith, long)) in
+        ap (λ (x : List ℕ). set x (v + i) (get_or l i empty_cell).word)
+        (set_before (paste w s (map tag_in l) i) v (map word_in l) i (s + i) (get_or l i empty_cell).tag (omega (arith, inside, apart)) fits
         ∙ ap (λ (x : List ℕ). paste x v (map word_in l) i) tag-written)
-        ∙ word-written ∙ ap (writing s v l w) (sym (add-one i))
+        ∙ word_written ∙ ap (writing s v l w) (sym (add-one i))
 
 -- all of them, where the words begin behind the tags
 pub written_all :
     (s n : ℕ) (l : List Cell) (w : List ℕ) → length l ≡ n → s + n ≤ length w
-    → writing s (s + n) l w n ≡ take s w ++ map tagIn l ++ map word_in l ++ drop (s + n + n) w
+    → writing s (s + n) l w n ≡ take s w ++ map tag_in l ++ map word_in l ++ drop (s + n + n) w
 written_all s n l w many long =
-    let tags : length (map tagIn l) ≡ n = length-map l tagIn ∙ many in
+    let tags : length (map tag_in l) ≡ n = length-map l tag_in ∙ many in
     let words : length (map word_in l) ≡ n = length-map l word_in ∙ many in
-    let whole-tags : take n (map tagIn l) ≡ map tagIn l = take_all n (map tagIn l) (omega (arith, tags)) in
+    let whole-tags : take n (map tag_in l) ≡ map tag_in l = take_all n (map tag_in l) (omega (arith, tags)) in
     let whole_words : take n (map word_in l) ≡ map word_in l = take_all n (map word_in l) (omega (arith, words)) in
-    let inner : List ℕ = paste w s (map tagIn l) n in
-    let first : take (s + n) inner ≡ take s w ++ map tagIn l =
-    take-paste w s (map tagIn l) n (omega (arith, long)) (omega (arith, tags)) ∙ ap (λ (x : List ℕ). take s w ++ x) whole-tags in
+    let inner : List ℕ = paste w s (map tag_in l) n in
+    let first : take (s + n) inner ≡ take s w ++ map tag_in l =
+    take-paste w s (map tag_in l) n (omega (arith, long)) (omega (arith, tags)) ∙ ap (λ (x : List ℕ). take s w ++ x) whole-tags in
     let behind : drop (s + n + n) inner ≡ drop (s + n + n) w =
-    sym (drop-drop n (s + n) inner) ∙ ap (drop n) (drop-paste w s (map tagIn l) n (omega (arith, long)) (omega (arith, tags)))
+    sym (drop-drop n (s + n) inner) ∙ ap (drop n) (drop-paste w s (map tag_in l) n (omega (arith, long)) (omega (arith, tags)))
     ∙ drop-drop n (s + n) w in
     ap (λ (x : List ℕ). x ++ take n (map word_in l) ++ drop (s + n + n) inner) first
-    ∙ ap (λ (x : List ℕ). take s w ++ map tagIn l ++ x ++ drop (s + n + n) inner) whole_words
-    ∙ ap (λ (x : List ℕ). take s w ++ map tagIn l ++ map word_in l ++ x) behind
+    ∙ ap (λ (x : List ℕ). take s w ++ map tag_in l ++ x ++ drop (s + n + n) inner) whole_words
+    ∙ ap (λ (x : List ℕ). take s w ++ map tag_in l ++ map word_in l ++ x) behind
 
 -- The words around the cells --------------------------------------------------------------------------------------------------------
 
 -- the words up to two that are stored one after the other, and one that is stored behind them
-pub pair-stored :
+pub pair_stored :
     (w : List ℕ) (at c k far l : ℕ) → at + 2 ≤ far → far < length w
     → take (at + 2) (set (set (set w at c) (at + 1) k) far l) ≡ take at w ++ c ∷ k ∷ []
-pair-stored w at c k far l before long =
+pair_stored w at c k far l before long =
     let first : at < length w = omega (arith, before, long) in
     let second : suc at < length (set w at c) = rw (length-set w at c) (omega (arith, before, long)) in
     let next : at + 2 ≡ suc (suc at) = omega arith in

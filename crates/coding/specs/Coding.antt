@@ -9,38 +9,38 @@ use Rattle.rules.specs.declared.Size.{Size}
 use Rattle.rules.specs.declared.Cells.{Cells}
 use Rattle.rules.specs.declared.Unit.{Unit}
 use Rattle.rules.specs.Choice.{pick}
-use Rattle.rules.specs.Unit.{countOf, room}
+use Rattle.rules.specs.Unit.{count_of, room}
 use Rattle.rules.specs.Status.{packed, unpacked}
-use Rattle.rules.specs.Maps.{tagIn}
+use Rattle.rules.specs.Maps.{tag_in}
 
 -- Places ---------------------------------------------------------------------------------------------------------------------------
 
 -- how many words stand before the cells: an end, the core and the map registers
-abbrev pub coreCount : ℕ
-coreCount = 16
+abbrev pub core_count : ℕ
+core_count = 16
 
 -- where the number of cells stands, and the counter behind it
-abbrev pub countPlace : ℕ
-countPlace = coreCount
+abbrev pub count_place : ℕ
+count_place = core_count
 
-abbrev pub counterPlace : ℕ
-counterPlace = countPlace + 1
+abbrev pub counter_place : ℕ
+counter_place = count_place + 1
 
 -- Where the cells' tags begin, and behind them their words, with room for all that the larger unit has. In the room of cells that a unit hasn't got
 -- anything may stand.
-abbrev pub tagsPlace : ℕ
-tagsPlace = counterPlace + 1
+abbrev pub tags_place : ℕ
+tags_place = counter_place + 1
 
-abbrev pub wordsPlace : ℕ
-wordsPlace = tagsPlace + room
+abbrev pub words_place : ℕ
+words_place = tags_place + room
 
 -- where the other end stands
-abbrev pub lastPlace : ℕ
-lastPlace = wordsPlace + room
+abbrev pub last_place : ℕ
+last_place = words_place + room
 
 -- how many words a unit takes
-abbrev pub unitWords : ℕ
-unitWords = lastPlace + 1
+abbrev pub unit_words : ℕ
+unit_words = last_place + 1
 
 -- Single words ---------------------------------------------------------------------------------------------------------------------
 
@@ -50,29 +50,29 @@ abbrev pub first_word : ℕ
 first_word = 0x324b
 
 -- the other end, which reads "1B"
-abbrev pub lastWord : ℕ
-lastWord = 0x4231
+abbrev pub last_word : ℕ
+last_word = 0x4231
 
 -- what is waited for, as a number
-unfoldable pub waitNumber : Wait → ℕ
-waitNumber Wait.Nothing = 0
-waitNumber Wait.StatusDue = 1
-waitNumber Wait.ProgramCounterDue = 2
-waitNumber Wait.SecondReadDue = 3
+unfoldable pub wait_number : Wait → ℕ
+wait_number Wait.Nothing = 0
+wait_number Wait.StatusDue = 1
+wait_number Wait.ProgramCounterDue = 2
+wait_number Wait.SecondReadDue = 3
 
 -- what such a number says is waited for
-unfoldable pub waitOf : ℕ → Wait
-waitOf n =
+unfoldable pub wait_of : ℕ → Wait
+wait_of n =
     pick (eqb n 0) Wait.Nothing (pick (eqb n 1) Wait.StatusDue (pick (eqb n 2) Wait.ProgramCounterDue Wait.SecondReadDue))
 
 -- a flag as a number
-unfoldable pub flagNumber : Bool → ℕ
-flagNumber true = 1
-flagNumber false = 0
+unfoldable pub flag_number : Bool → ℕ
+flag_number true = 1
+flag_number false = 0
 
 -- the size that a number of cells is, out of the two numbers that are one
-unfoldable pub sizeIn : ℕ → Size
-sizeIn n = pick (eqb n 24) Size.TwentyFour Size.Eight
+unfoldable pub size_in : ℕ → Size
+size_in n = pick (eqb n 24) Size.TwentyFour Size.Eight
 
 -- From words ------------------------------------------------------------------------------------------------------------------------
 
@@ -80,9 +80,9 @@ sizeIn n = pick (eqb n 24) Size.TwentyFour Size.Eight
 -- cells, and the counter names one of them.
 unfoldable pub is_unit : List ℕ → Bool
 is_unit w =
-    eqb (get_or w 0 0) first_word && eqb (get_or w lastPlace 0) lastWord && eqb (get_or w 1 0 / 0o100 % 0o40) 0 && ltb (get_or w 8 0) 4
-    && ltb (get_or w 11 0) 3 && ltb (get_or w 12 0) 3 && ltb (get_or w 13 0) 2 && (eqb (get_or w countPlace 0) 8 || eqb (get_or w countPlace 0) 24)
-    && leb 0o10 (get_or w counterPlace 0) && ltb (get_or w counterPlace 0) (0o10 + countOf (sizeIn (get_or w countPlace 0)))
+    eqb (get_or w 0 0) first_word && eqb (get_or w last_place 0) last_word && eqb (get_or w 1 0 / 0o100 % 0o40) 0 && ltb (get_or w 8 0) 4
+    && ltb (get_or w 11 0) 3 && ltb (get_or w 12 0) 3 && ltb (get_or w 13 0) 2 && (eqb (get_or w count_place 0) 8 || eqb (get_or w count_place 0) 24)
+    && leb 0o10 (get_or w counter_place 0) && ltb (get_or w counter_place 0) (0o10 + count_of (size_in (get_or w count_place 0)))
 
 -- the core, from the words that each of its fields has
 unfoldable pub core_of : List ℕ → Core
@@ -90,7 +90,7 @@ core_of w =
     record {
       ktcs = unpacked (get_or w 1 0);
       kept = get_or w 2 0 ∷ get_or w 3 0 ∷ get_or w 4 0 ∷ get_or w 5 0 ∷ get_or w 6 0 ∷ get_or w 7 0 ∷ [];
-      wait = waitOf (get_or w 8 0);
+      wait = wait_of (get_or w 8 0);
       fetch =
           record {
             newer = get_or w 9 0;
@@ -102,8 +102,8 @@ core_of w =
     }
 
 -- the map registers, which stand last before the cells
-unfoldable pub mapsOf : List ℕ → Maps
-mapsOf w = record { ktum = get_or w 14 0; ktem = get_or w 15 0 }
+unfoldable pub maps_of : List ℕ → Maps
+maps_of w = record { ktum = get_or w 14 0; ktem = get_or w 15 0 }
 
 -- so many cells, each with the next of these tags and the next of these words
 unfoldable pub cells_in : ℕ → List ℕ → List ℕ → List Cell
@@ -112,33 +112,33 @@ cells_in (suc n) tags words = record { tag = get_or tags 0 0; word = get_or word
 
 -- all cells for which there is room, of which the unit has the first
 unfoldable pub list_of : List ℕ → List Cell
-list_of w = cells_in room (drop tagsPlace w) (drop wordsPlace w)
+list_of w = cells_in room (drop tags_place w) (drop words_place w)
 
 -- the cells with their number and the counter
 unfoldable pub cells_of : List ℕ → Cells
-cells_of w = record { size = sizeIn (get_or w countPlace 0); list = list_of w; counter = get_or w counterPlace 0 }
+cells_of w = record { size = size_in (get_or w count_place 0); list = list_of w; counter = get_or w counter_place 0 }
 
 -- the unit that words are
 unfoldable pub decoded : List ℕ → Unit
-decoded w = record { core = core_of w; maps = mapsOf w; cells = cells_of w }
+decoded w = record { core = core_of w; maps = maps_of w; cells = cells_of w }
 
 -- To words --------------------------------------------------------------------------------------------------------------------------
 
 -- the words before the cells: an end, the core and the map registers
-unfoldable pub coreWords : Core → Maps → List ℕ
-coreWords c r =
+unfoldable pub core_words : Core → Maps → List ℕ
+core_words c r =
     first_word ∷ packed c.ktcs ∷ get_or c.kept 0 0 ∷ get_or c.kept 1 0 ∷ get_or c.kept 2 0 ∷ get_or c.kept 3 0 ∷ get_or c.kept 4 0
-    ∷ get_or c.kept 5 0 ∷ waitNumber c.wait ∷ c.fetch.newer ∷ c.fetch.older ∷ c.fetch.datos ∷ c.fetch.accesses
-    ∷ flagNumber c.fetch.public ∷ r.ktum ∷ r.ktem ∷ []
+    ∷ get_or c.kept 5 0 ∷ wait_number c.wait ∷ c.fetch.newer ∷ c.fetch.older ∷ c.fetch.datos ∷ c.fetch.accesses
+    ∷ flag_number c.fetch.public ∷ r.ktum ∷ r.ktem ∷ []
 
 -- the scratchpad word that a cell holds
 unfoldable pub word_in : Cell → ℕ
 word_in x = x.word
 
 -- the words from the cells on: their number, the counter, all tags, all words and the other end
-unfoldable pub cellsWords : Cells → List ℕ
-cellsWords k = countOf k.size ∷ k.counter ∷ map tagIn k.list ++ map word_in k.list ++ lastWord ∷ []
+unfoldable pub cells_words : Cells → List ℕ
+cells_words k = count_of k.size ∷ k.counter ∷ map tag_in k.list ++ map word_in k.list ++ last_word ∷ []
 
 -- the words of a unit
 unfoldable pub coded : Unit → List ℕ
-coded u = coreWords u.core u.maps ++ cellsWords u.cells
+coded u = core_words u.core u.maps ++ cells_words u.cells

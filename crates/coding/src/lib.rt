@@ -1,7 +1,7 @@
 // How a unit lies in the words that a host owns: whether words hold a unit, the unit that they hold, and the words of a unit.
 ghost use Rattle.std.specs.Prelude.{◌≡◌, ◌++◌, map, length, take, drop};
-ghost use Rattle.rules.specs.Maps.{tagIn};
-ghost use Rattle.coding.specs.Coding.{coreCount, tagsPlace, lastPlace, unitWords, waitNumber, waitOf, flagNumber, sizeIn, is_unit, core_of, mapsOf, list_of, cells_of, decoded, coreWords, word_in, cellsWords, coded};
+ghost use Rattle.rules.specs.Maps.{tag_in};
+ghost use Rattle.coding.specs.Coding.{core_count, tags_place, last_place, unit_words, wait_number, wait_of, flag_number, size_in, is_unit, core_of, maps_of, list_of, cells_of, decoded, core_words, word_in, cells_words, coded};
 
 use rules::{Cell, Cells, Core, Fetch, Maps, ROOM, Size, Unit, Wait};
 
@@ -49,7 +49,7 @@ pub fn is_unit(w: [u16; WORDS]) -> bool
 }
 
 pub fn wait_of(n: u16) -> Wait
-    ensures { result ≡ waitOf n }
+    ensures { result ≡ wait_of n }
 {
     if n == 0 {
         return Wait::Nothing;
@@ -64,7 +64,7 @@ pub fn wait_of(n: u16) -> Wait
 }
 
 pub fn wait_number(w: Wait) -> u16
-    ensures { result ≡ waitNumber w }
+    ensures { result ≡ wait_number w }
 {
     match w {
         Wait::Nothing => 0,
@@ -75,13 +75,13 @@ pub fn wait_number(w: Wait) -> u16
 }
 
 pub fn flag_number(b: bool) -> u16
-    ensures { result ≡ flagNumber b }
+    ensures { result ≡ flag_number b }
 {
     if b { 1 } else { 0 }
 }
 
 fn size_in(n: u16) -> Size
-    ensures { result ≡ sizeIn n }
+    ensures { result ≡ size_in n }
 {
     if n == 24 {
         Size::TwentyFour
@@ -138,7 +138,7 @@ pub fn cells_of(w: [u16; WORDS]) -> Cells
 }
 
 pub fn maps_of(w: [u16; WORDS]) -> Maps
-    ensures { result ≡ mapsOf w }
+    ensures { result ≡ maps_of w }
 {
     Maps {
         ktum: w[14],
@@ -158,7 +158,7 @@ pub fn decoded(w: [u16; WORDS]) -> Unit
 
 // An end, the core and the map registers, in the words before the cells; the others stay. The words' number is their type's, and said for callers.
 pub fn with_core(w: [u16; WORDS], c: Core, r: Maps) -> [u16; WORDS]
-    ensures { (result ≡ coreWords c r ++ drop coreCount w) × (length w ≡ unitWords) }
+    ensures { (result ≡ core_words c r ++ drop core_count w) × (length w ≡ unit_words) }
 {
     let kept = c.kept;
     let wait = c.wait;
@@ -184,7 +184,7 @@ pub fn with_core(w: [u16; WORDS], c: Core, r: Maps) -> [u16; WORDS]
 
 // The tags and the words of all cells for which there is room, each in its place; the others stay.
 fn with_list(w: [u16; WORDS], list: [Cell; ROOM]) -> [u16; WORDS]
-    ensures { result ≡ take tagsPlace w ++ map tagIn list ++ map word_in list ++ drop lastPlace w }
+    ensures { result ≡ take tags_place w ++ map tag_in list ++ map word_in list ++ drop last_place w }
 {
     let mut o = w;
     let mut i = 0;
@@ -200,7 +200,7 @@ fn with_list(w: [u16; WORDS], list: [Cell; ROOM]) -> [u16; WORDS]
 // The cells, their number, the counter and the other end, in the words from the cells on; the others stay. The list comes by itself for its
 // length, which is known of an array and not of a field.
 fn with_cells(w: [u16; WORDS], size: Size, list: [Cell; ROOM], counter: u16) -> [u16; WORDS]
-    ensures { result ≡ take coreCount w ++ cellsWords (record { size = size; list = list; counter = counter }) }
+    ensures { result ≡ take core_count w ++ cells_words (record { size = size; list = list; counter = counter }) }
 {
     let mut o = w;
     o[COUNT_AT] = sizes::count_of(size) as u16;

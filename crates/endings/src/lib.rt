@@ -1,7 +1,7 @@
 // How an access ends: the outcomes of the rules' order of steps, each with its answer, the unit's new core, and what is to be done.
 ghost use Rattle.std.specs.Prelude.{◌≡◌};
 ghost use Rattle.rules.specs.Program.{done};
-ghost use Rattle.rules.specs.Order.{refused, faulted, outerFault, windowAddr, innerFault, fetched, flagAfter, wordJudged, unpagedTimeOut, sequenced};
+ghost use Rattle.rules.specs.Order.{refused, faulted, outer_fault, window_addr, inner_fault, fetched, flag_after, word_judged, unpaged_time_out, sequenced};
 
 use rules::{Answer, Core, Effect, Entry, Fault, Fetch, Job, Outcome, Target};
 
@@ -42,7 +42,7 @@ fn faulted(j: Job, inner: bool, tag: u16, f: Fault) -> Outcome
 
 // The page of the access's own address is at fault.
 pub fn outer_fault(j: Job, f: Fault) -> Outcome
-    ensures { done result ≡ outerFault j f }
+    ensures { done result ≡ outer_fault j f }
 {
     let tag = pages::tag_of(j.core.ktcs.um, pages::page_of(j.q.addr));
     faulted(j, false, tag, f)
@@ -50,7 +50,7 @@ pub fn outer_fault(j: Job, f: Fault) -> Outcome
 
 // The address that the window goes on to: KTAD.
 pub fn window_addr(j: Job) -> u16
-    ensures { result ≡ windowAddr j }
+    ensures { result ≡ window_addr j }
 {
     let kept = j.core.kept;
     kept[registers::KTAD]
@@ -58,7 +58,7 @@ pub fn window_addr(j: Job) -> u16
 
 // The window's inner page is at fault, and KTAD stays.
 pub fn inner_fault(j: Job, f: Fault) -> Outcome
-    ensures { done result ≡ innerFault j f }
+    ensures { done result ≡ inner_fault j f }
 {
     let tag = pages::tag_of(true, pages::page_of(window_addr(j)));
     faulted(j, true, tag, f)
@@ -80,7 +80,7 @@ pub fn fetched(j: Job, at: usize, flag: bool, w: u16) -> Outcome
 
 // The flag after a paged fetch: the page's public bit, but a fetch from a KT register never moves it.
 fn flag_after(t: Target, f: Fetch, e: Entry) -> bool
-    ensures { result ≡ flagAfter t f e }
+    ensures { result ≡ flag_after t f e }
 {
     match t {
         Target::Memory => steps::public_page(e),
@@ -90,7 +90,7 @@ fn flag_after(t: Target, f: Fetch, e: Entry) -> bool
 
 // "11. For a fetch, the word (8)."
 pub fn word_judged(j: Job, at: usize, t: Target, e: Entry, w: u16) -> Outcome
-    ensures { done result ≡ wordJudged j at t e w }
+    ensures { done result ≡ word_judged j at t e w }
 {
     let c = j.core;
     if steps::forbidden(c, e, w) {
@@ -102,7 +102,7 @@ pub fn word_judged(j: Job, at: usize, t: Target, e: Entry, w: u16) -> Outcome
 
 // "unpaged: step 4, KTAD, KTDT"
 pub fn unpaged_time_out(j: Job) -> Outcome
-    ensures { done result ≡ unpagedTimeOut j }
+    ensures { done result ≡ unpaged_time_out j }
 {
     let c = j.core;
     let q = j.q;

@@ -1,35 +1,35 @@
 // The fetch memory and step 4 of an access: the counts, KTIC, SS and DS (01, "Order in one access"; source 3.3.2.1).
 ghost use Rattle.std.specs.Prelude.{◌≡◌};
 ghost use Rattle.rules.specs.Choice.{pick};
-ghost use Rattle.rules.specs.Unit.{clearFetch};
-ghost use Rattle.rules.specs.Fetched.{isFetch, isDato, oneMore, counted, normal, destinationOnly, sourceBy, destinationBy, sourceSet, destinationSet, statesMarked, instructionNoted, marked, noted, afterFetch};
+ghost use Rattle.rules.specs.Unit.{clear_fetch};
+ghost use Rattle.rules.specs.Fetched.{is_fetch, is_dato, one_more, counted, normal, destination_only, source_by, destination_by, source_set, destination_set, states_marked, instruction_noted, marked, noted, after_fetch};
 
 use rules::{Access, Core, Fetch, Kind, Ktcs};
 
 // "States: 0 FETCH"
 pub fn is_fetch(q: Access) -> bool
-    ensures { result ≡ isFetch q }
+    ensures { result ≡ is_fetch q }
 {
     q.state == 0
 }
 
 // "Only DATO counts as DATO": operation 2.
 fn is_dato(q: Access) -> bool
-    ensures { result ≡ isDato q }
+    ensures { result ≡ is_dato q }
 {
     q.op == 2
 }
 
 // "each stops at 2"
 pub fn one_more(n: u16) -> u16
-    ensures { result ≡ oneMore n }
+    ensures { result ≡ one_more n }
 {
     if n < 2 { n + 1 } else { 2 }
 }
 
 // One more where this access is of the kind that is counted.
 pub fn one_more_if(counts: bool, n: u16) -> u16
-    ensures { result ≡ pick counts (oneMore n) n }
+    ensures { result ≡ pick counts (one_more n) n }
 {
     if counts { one_more(n) } else { n }
 }
@@ -61,14 +61,14 @@ pub fn normal(s: Ktcs, q: Access) -> bool
 
 // "The FCN 1 clauses hold whether or not that access is paged."
 pub fn destination_only(s: Ktcs) -> bool
-    ensures { result ≡ destinationOnly s }
+    ensures { result ≡ destination_only s }
 {
     s.fcn == 1
 }
 
 // SS by what is being executed: n in normal paging, d in destination-only paging, at a DATO.
 fn source_by(k: Kind, n: bool, d: bool, dato: bool) -> bool
-    ensures { result ≡ sourceBy k n d dato }
+    ensures { result ≡ source_by k n d dato }
 {
     match k {
         Kind::Jsr => (n | d) & dato,
@@ -83,7 +83,7 @@ fn source_by(k: Kind, n: bool, d: bool, dato: bool) -> bool
 
 // DS by what is being executed: n and d as above, at the second DATO, at the second access.
 fn destination_by(k: Kind, n: bool, d: bool, dato2: bool, access2: bool) -> bool
-    ensures { result ≡ destinationBy k n d dato2 access2 }
+    ensures { result ≡ destination_by k n d dato2 access2 }
 {
     match k {
         Kind::Jsr => false,
@@ -98,7 +98,7 @@ fn destination_by(k: Kind, n: bool, d: bool, dato2: bool, access2: bool) -> bool
 
 // "Any bus operation while in the SOURCE state during normal paging", or what is being executed.
 pub fn source_set(s: Ktcs, f: Fetch, q: Access) -> bool
-    ensures { result ≡ sourceSet s f q }
+    ensures { result ≡ source_set s f q }
 {
     let n = normal(s, q);
     let executing = kinds::kind_of(f.newer);
@@ -108,7 +108,7 @@ pub fn source_set(s: Ktcs, f: Fetch, q: Access) -> bool
 // "Any bus operation while in the DESTINATION state during normal or destination-only paging", or what is being executed;
 // "the "second" is the one that takes its count from 1 to 2"
 pub fn destination_set(s: Ktcs, f: Fetch, q: Access) -> bool
-    ensures { result ≡ destinationSet s f q }
+    ensures { result ≡ destination_set s f q }
 {
     let n = normal(s, q);
     let d = destination_only(s);
@@ -119,7 +119,7 @@ pub fn destination_set(s: Ktcs, f: Fetch, q: Access) -> bool
 
 // SS and DS, where the flags are clear. "a fetch sets neither bit (H)", and in normal paging it clears both.
 pub fn states_marked(s: Ktcs, f: Fetch, q: Access) -> Ktcs
-    ensures { result ≡ statesMarked s f q }
+    ensures { result ≡ states_marked s f q }
 {
     if is_fetch(q) {
         if normal(s, q) {
@@ -134,7 +134,7 @@ pub fn states_marked(s: Ktcs, f: Fetch, q: Access) -> Ktcs
 
 // "KTIC from the address on a paged FETCH": a fetch is paged in FCN 2 and 3, which is normal paging.
 pub fn instruction_noted(c: Core, q: Access) -> Core
-    ensures { result ≡ instructionNoted c q }
+    ensures { result ≡ instruction_noted c q }
 {
     if is_fetch(q) & normal(c.ktcs, q) {
         let kept = c.kept;
@@ -174,7 +174,7 @@ pub fn noted(c: Core, q: Access) -> Core
 
 // "A fetch with answer 0 updates it (counts go to 0, the flag to the page's public bit)"
 pub fn after_fetch(f: Fetch, w: u16, flag: bool) -> Fetch
-    ensures { result ≡ afterFetch f w flag }
+    ensures { result ≡ after_fetch f w flag }
 {
     Fetch {
         newer: w,
@@ -187,7 +187,7 @@ pub fn after_fetch(f: Fetch, w: u16, flag: bool) -> Fetch
 
 // "Fetch memory: .. cleared is all zero."
 pub fn clear_fetch() -> Fetch
-    ensures { result ≡ clearFetch }
+    ensures { result ≡ clear_fetch }
 {
     Fetch {
         newer: 0,

@@ -16,13 +16,13 @@ use Rattle.fieldtext.specs.Cut.{onto, fields, head_of, fields_at, none}
 pub at_place : (s : List ℕ) (i : ℕ) → i < length s → drop i s ≡ get_or s i 0 ∷ drop (i + 1) s
 at_place s i h = rw (add-one, drop-cons s i 0)
 
-pub head-end : (s : List ℕ) (i : ℕ) → length s ≤ i → head_of (drop i s) ≡ []
+pub head_end : (s : List ℕ) (i : ℕ) → length s ≤ i → head_of (drop i s) ≡ []
 unfolding head_of
-head-end s i h = rw (drop_of_length-le s h)
+head_end s i h = rw (drop_of_length-le s h)
 
-pub head-tab : (s : List ℕ) (i : ℕ) → i < length s → get_or s i 0 ≡ 9 → head_of (drop i s) ≡ []
+pub head_tab : (s : List ℕ) (i : ℕ) → i < length s → get_or s i 0 ≡ 9 → head_of (drop i s) ≡ []
 unfolding head_of pick
-head-tab s i h e = simp (at_place s i h, e)
+head_tab s i h e = simp (at_place s i h, e)
 
 pub head_more : (s : List ℕ) (i : ℕ) → i < length s → (get_or s i 0 ≡ 9 → ⊥) → head_of (drop i s) ≡ get_or s i 0 ∷ head_of (drop (i + 1) s)
 unfolding head_of pick
@@ -49,10 +49,10 @@ fields_split (b ∷ s) = split (eqb b 9) (fields_split s)
     split false e = simp (e, leb-suc-suc (suc (length s)) (suc (length (head_of s))))
 
 -- the first field is what stands before its end
-pub head-take : (s : List ℕ) → take (length (head_of s)) s ≡ head_of s
+pub head_take : (s : List ℕ) → take (length (head_of s)) s ≡ head_of s
 unfolding head_of pick
-head-take [] = refl
-head-take (b ∷ s) = part (eqb b 9) (head-take s)
+head_take [] = refl
+head_take (b ∷ s) = part (eqb b 9) (head_take s)
   where
     part : (t : Bool) → take (length (head_of s)) s ≡ head_of s → take (length (pick t [] (b ∷ head_of s))) (b ∷ s) ≡ pick t [] (b ∷ head_of s)
     part true e = refl

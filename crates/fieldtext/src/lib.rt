@@ -1,6 +1,6 @@
 // A line's fields, which are cut at each tab, and the numbers in them; and a count, which is read digit by digit like them.
 ghost use Rattle.std.specs.Prelude.{◌≡◌, ◌&&◌, ◌≤◌, length};
-ghost use Rattle.fieldtext.specs.Number.{isDigit, digitsOf, number_of, decimalOf};
+ghost use Rattle.fieldtext.specs.Number.{is_digit, digits_of, number_of, decimal_of};
 ghost use Rattle.fieldtext.specs.Cut.{head_of, fields_at, none};
 ghost use Rattle.fieldtext.specs.Reading.{Took};
 
@@ -45,7 +45,7 @@ pub fn field_end(s: &[u8]) -> usize
 // The digits of a base up to ten are the bytes from 48 on.
 fn is_digit(b: u8, base: u64) -> bool
     requires { base ≤ 10 }
-    ensures { result ≡ isDigit base b }
+    ensures { result ≡ is_digit base b }
 {
     if 47 < b {
         (b as u64) < 48 + base
@@ -57,7 +57,7 @@ fn is_digit(b: u8, base: u64) -> bool
 // What 1 to `most` digits of a base say.
 fn read_digits(bytes: &[u8], base: u64, most: usize) -> Figures
     requires { (base ≤ 10) × (most ≤ 9) }
-    ensures { result ≡ digitsOf base most bytes.now }
+    ensures { result ≡ digits_of base most bytes.now }
 {
     if bytes.len() == 0 {
         return Figures::Other;
@@ -97,7 +97,7 @@ pub fn octal(field: &[u8]) -> Number
 
 // A count: "N is 1 to 9 decimal digits." (T-08)
 pub fn count(bytes: &[u8]) -> Figures
-    ensures { result ≡ decimalOf bytes.now }
+    ensures { result ≡ decimal_of bytes.now }
 {
     read_digits(bytes, 10, 9)
 }

@@ -12,13 +12,13 @@ use borrow.Author.Tests.{le-ltb, lt-ltb, ltb-true, ltb-false, eqb-true}
 use Rattle.rules.specs.Choice.{pick}
 use Rattle.rules.proofs.Laws.Choices.{pick_same, picked}
 use Rattle.fieldtext.specs.Cut.{onto, fields, head_of, fields_at}
-use Rattle.fieldtext.specs.Number.{allDigits, areDigits, worth, is_number}
+use Rattle.fieldtext.specs.Number.{all_digits, are_digits, worth, is_number}
 use Rattle.fieldtext.proofs.Scan.{fields_split}
 use Rattle.fieldtext.proofs.Digits.{and_left, and_right}
-use Rattle.linetext.specs.Line.{allNumbers, numbers, store_of, accessOf, trapOf, aloneOf, byLetter, byName, fromFields, line_of}
+use Rattle.linetext.specs.Line.{all_numbers, numbers, store_of, access_of, trap_of, alone_of, by_letter, by_name, from_fields, line_of}
 use Rattle.linetext.specs.declared.Line.{Line}
 use Rattle.linetext.specs.declared.Line.TheVariants.{Bad}
-use Rattle.gathering.specs.Gather.{nothingYet, pushOf, pushAll, gathered, lineIn}
+use Rattle.gathering.specs.Gather.{nothing_yet, push_of, push_all, gathered, line_in}
 use Rattle.gathering.specs.declared.Gather.{Gather}
 
 -- the bytes of the fields, with one tab or end behind each
@@ -26,81 +26,81 @@ total : List (List ℕ) → ℕ
 total [] = 0
 total (f ∷ fs) = suc (length f) + total fs
 
-total-onto : (b : ℕ) (f : List ℕ) (fs : List (List ℕ)) → total (onto b (f ∷ fs)) ≡ suc (total (f ∷ fs))
+total_onto : (b : ℕ) (f : List ℕ) (fs : List (List ℕ)) → total (onto b (f ∷ fs)) ≡ suc (total (f ∷ fs))
 unfolding total onto
-total-onto b f fs = omega arith
+total_onto b f fs = omega arith
 
-total-fields : (s : List ℕ) → total (fields s) ≡ suc (length s)
+total_fields : (s : List ℕ) → total (fields s) ≡ suc (length s)
 unfolding total fields pick
-total-fields [] = refl
-total-fields (b ∷ s) = by (eqb b 9) (total-fields s)
+total_fields [] = refl
+total_fields (b ∷ s) = by (eqb b 9) (total_fields s)
   where
     by : (t : Bool) → total (fields s) ≡ suc (length s) → total (pick t ([] ∷ fields s) (onto b (fields s))) ≡ suc (suc (length s))
     by true e = omega arith
     by false e =
         let split = fields_split s in
         ap (λ (fs : List (List ℕ)). total (onto b fs)) split
-        ∙ total-onto b (head_of s) (fields_at s (suc (length (head_of s))))
+        ∙ total_onto b (head_of s) (fields_at s (suc (length (head_of s))))
         ∙ ap suc (ap total (sym split) ∙ e)
 
 number_short : (f : List ℕ) → is_number f ≡ true → length f < 7
-unfolding is_number areDigits
+unfolding is_number are_digits
 number_short f e =
-    let two = and_left (ltb 0 (length f) && ltb (length f) 7) (allDigits 8 f) (and_left (areDigits 8 6 f) (ltb (worth f) 65536) e) in
+    let two = and_left (ltb 0 (length f) && ltb (length f) 7) (all_digits 8 f) (and_left (are_digits 8 6 f) (ltb (worth f) 65536) e) in
     ltb-true (length f) 7 (and_right (ltb 0 (length f)) (ltb (length f) 7) two)
 
-numbers-short : (fs : List (List ℕ)) → allNumbers fs ≡ true → total fs ≤ 7 * length fs
-unfolding total allNumbers
+numbers-short : (fs : List (List ℕ)) → all_numbers fs ≡ true → total fs ≤ 7 * length fs
+unfolding total all_numbers
 numbers-short [] e = omega arith
 numbers-short (f ∷ fs) e =
-    let h = number_short f (and_left (is_number f) (allNumbers fs) e) in
-    let i = numbers-short fs (and_right (is_number f) (allNumbers fs) e) in
+    let h = number_short f (and_left (is_number f) (all_numbers fs) e) in
+    let i = numbers-short fs (and_right (is_number f) (all_numbers fs) e) in
     omega arith
 
-no-numbers : (n : ℕ) (fs : List (List ℕ)) → n ≤ 5 → 35 < total fs → numbers n fs ≡ false
+no_numbers : (n : ℕ) (fs : List (List ℕ)) → n ≤ 5 → 35 < total fs → numbers n fs ≡ false
 unfolding numbers
-no-numbers n fs h k = by (eqb (length fs) n && allNumbers fs) refl
+no_numbers n fs h k = by (eqb (length fs) n && all_numbers fs) refl
   where
-    by : (t : Bool) → (eqb (length fs) n && allNumbers fs) ≡ t → t ≡ false
+    by : (t : Bool) → (eqb (length fs) n && all_numbers fs) ≡ t → t ≡ false
     by false e = refl
     by true e =
-        let l = eqb-true (length fs) n (and_left (eqb (length fs) n) (allNumbers fs) e) in
-        let s = numbers-short fs (and_right (eqb (length fs) n) (allNumbers fs) e) in
+        let l = eqb-true (length fs) n (and_left (eqb (length fs) n) (all_numbers fs) e) in
+        let s = numbers-short fs (and_right (eqb (length fs) n) (all_numbers fs) e) in
         let z : ⊥ = omega arith in
         absurd z
 
-letter-long : (b : ℕ) (fs : List (List ℕ)) → 35 < total fs → byLetter b fs ≡ Bad
-unfolding byLetter store_of accessOf trapOf aloneOf pick
-letter-long b fs k =
-    simp (no-numbers 0 fs (omega arith) k, no-numbers 1 fs (omega arith) k, no-numbers 2 fs (omega arith) k, no-numbers 5 fs (omega arith) k, pick_same)
+letter_long : (b : ℕ) (fs : List (List ℕ)) → 35 < total fs → by_letter b fs ≡ Bad
+unfolding by_letter store_of access_of trap_of alone_of pick
+letter_long b fs k =
+    simp (no_numbers 0 fs (omega arith) k, no_numbers 1 fs (omega arith) k, no_numbers 2 fs (omega arith) k, no_numbers 5 fs (omega arith) k, pick_same)
 
-name-long : (name : List ℕ) (fs : List (List ℕ)) → 36 < length name + total fs → byName name fs ≡ Bad
-unfolding byName pick
-name-long name fs k = by (eqb (length name) 1) refl
+name_long : (name : List ℕ) (fs : List (List ℕ)) → 36 < length name + total fs → by_name name fs ≡ Bad
+unfolding by_name pick
+name_long name fs k = by (eqb (length name) 1) refl
   where
-    by : (t : Bool) → eqb (length name) 1 ≡ t → pick t (byLetter (get_or name 0 0) fs) Bad ≡ Bad
+    by : (t : Bool) → eqb (length name) 1 ≡ t → pick t (by_letter (get_or name 0 0) fs) Bad ≡ Bad
     by true e =
         let one = eqb-true (length name) 1 e in
-        letter-long (get_or name 0 0) fs (omega arith)
+        letter_long (get_or name 0 0) fs (omega arith)
     by false e = refl
 
 -- no good line has more than 36 bytes
-pub long-bad : (s : List ℕ) → 36 < length s → line_of s ≡ Bad
-unfolding line_of fromFields total
-long-bad s h =
+pub long_bad : (s : List ℕ) → 36 < length s → line_of s ≡ Bad
+unfolding line_of from_fields total
+long_bad s h =
     let name : List ℕ = head_of s in
     let rest : List (List ℕ) = fields_at s (suc (length name)) in
-    let all : suc (length name) + total rest ≡ suc (length s) = ap total (sym (fields_split s)) ∙ total-fields s in
-    ap fromFields (fields_split s) ∙ name-long name rest (omega arith)
+    let all : suc (length name) + total rest ≡ suc (length s) = ap total (sym (fields_split s)) ∙ total_fields s in
+    ap from_fields (fields_split s) ∙ name_long name rest (omega arith)
 
 -- what a gather holds of the line p that was pushed: all of it, or that it was too long
 data Held (p : List ℕ) (g : Gather) : Type 0 where
   kept : g.len ≡ length p → length p ≤ 40 → take g.len g.buf ≡ p → length g.buf ≡ 40 → Held p g
   lost : 40 < g.len → 40 < length p → Held p g
 
-held-push : (p : List ℕ) (g : Gather) (b : ℕ) → Held p g → Held (p ++ b ∷ []) (pushOf g b)
-unfolding pushOf
-held-push p g b (kept l w t z) =
+held_push : (p : List ℕ) (g : Gather) (b : ℕ) → Held p g → Held (p ++ b ∷ []) (push_of g b)
+unfolding push_of
+held_push p g b (kept l w t z) =
     let longer = length-append p (b ∷ []) in
     picked (Held (p ++ b ∷ [])) (ltb g.len 40) _ _
     (λ e.
@@ -108,22 +108,22 @@ held-push p g b (kept l w t z) =
     kept (omega arith) (omega (arith, ltb-true g.len 40 e)) (simp (add-one, take-suc-set g.buf g.len b room, t))
     (length-set g.buf g.len b ∙ z))
     (λ e. lost (omega arith) (omega (arith, ltb-false g.len 40 e)))
-held-push p g b (lost l h) =
+held_push p g b (lost l h) =
     let longer = length-append p (b ∷ []) in
     picked (Held (p ++ b ∷ [])) (ltb g.len 40) _ _ (λ e. lost (omega (arith, ltb-true g.len 40 e)) (omega arith)) (λ e. lost (omega arith) (omega arith))
 
-held_all : (s p : List ℕ) (g : Gather) → Held p g → Held (p ++ s) (pushAll g s)
-unfolding pushAll
+held_all : (s p : List ℕ) (g : Gather) → Held p g → Held (p ++ s) (push_all g s)
+unfolding push_all
 held_all [] p g h = rw append-nil h
-held_all (b ∷ s) p g h = rw append_assoc at (held_all s (p ++ b ∷ []) (pushOf g b) (held-push p g b h))
+held_all (b ∷ s) p g h = rw append_assoc at (held_all s (p ++ b ∷ []) (push_of g b) (held_push p g b h))
 
 -- a gather that holds a line asks for what the line asks for
-held-line : (p : List ℕ) (g : Gather) → Held p g → lineIn g ≡ line_of p
-unfolding lineIn pick
-held-line p g (kept l w t z) = simp (le-ltb 40 g.len (omega arith), t)
-held-line p g (lost l h) = simp (lt-ltb 40 g.len l) (sym (long-bad p (omega arith)))
+held_line : (p : List ℕ) (g : Gather) → Held p g → line_in g ≡ line_of p
+unfolding line_in pick
+held_line p g (kept l w t z) = simp (le-ltb 40 g.len (omega arith), t)
+held_line p g (lost l h) = simp (lt-ltb 40 g.len l) (sym (long_bad p (omega arith)))
 
 -- whatever the line, what is gathered of it asks for what it asks for
-pub whole : (s : List ℕ) → lineIn (gathered s) ≡ line_of s
-unfolding gathered nothingYet
-whole s = held-line s (gathered s) (held_all s [] nothingYet (kept refl (omega arith) refl refl))
+pub whole : (s : List ℕ) → line_in (gathered s) ≡ line_of s
+unfolding gathered nothing_yet
+whole s = held_line s (gathered s) (held_all s [] nothing_yet (kept refl (omega arith) refl refl))

@@ -1,6 +1,6 @@
 // Lines gathered from the input byte by byte. No good line has more than 36 bytes, so 40 are enough to tell what a line asks for.
 ghost use Rattle.std.specs.Prelude.{◌≡◌};
-ghost use Rattle.gathering.specs.Gather.{nothingYet, pushOf, lineIn};
+ghost use Rattle.gathering.specs.Gather.{nothing_yet, push_of, line_in};
 
 use linetext::Line;
 
@@ -16,7 +16,7 @@ const TOO_LONG: usize = 41;
 
 // No byte of a line yet.
 pub fn nothing() -> Gather
-    ensures { result ≡ nothingYet }
+    ensures { result ≡ nothing_yet }
 {
     Gather {
         buf: [0u8; 40],
@@ -26,7 +26,7 @@ pub fn nothing() -> Gather
 
 // One more byte of the line, which is no newline. A byte that finds no room makes the line too long and is dropped.
 pub fn push(g: Gather, b: u8) -> Gather
-    ensures { result ≡ pushOf g b }
+    ensures { result ≡ push_of g b }
 {
     let at = g.len;
     let mut out = g;
@@ -41,7 +41,7 @@ pub fn push(g: Gather, b: u8) -> Gather
 
 // What the gathered line asks for.
 pub fn line_in(g: Gather) -> Line
-    ensures { result ≡ lineIn g }
+    ensures { result ≡ line_in g }
 {
     let len = g.len;
     let buf = g.buf;

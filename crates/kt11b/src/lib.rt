@@ -5,11 +5,11 @@ ghost use Rattle.rules.specs.declared.Call.{Call};
 ghost use Rattle.rules.specs.Memory.{Memory};
 ghost use Rattle.rules.specs.Calls.{call_of};
 ghost use Rattle.rules.specs.Unit.{size_of};
-ghost use Rattle.rules.specs.Answers.{shown, makingShown};
+ghost use Rattle.rules.specs.Answers.{shown, making_shown};
 ghost use Rattle.coding.specs.Coding.{decoded, coded};
-ghost use Rattle.replies.specs.Replies.{replyWord};
-ghost use Rattle.panel.specs.Panel.{registerRead, countRead, tagRead, wordRead, counterRead, waitRead, pagePlace};
-ghost use Rattle.kt11b.specs.Doors.{wordsMade, wordsAfter, memoryAfter, replyAfter};
+ghost use Rattle.replies.specs.Replies.{reply_word};
+ghost use Rattle.panel.specs.Panel.{register_read, count_read, tag_read, word_read, counter_read, wait_read, page_place};
+ghost use Rattle.kt11b.specs.Doors.{words_made, words_after, memory_after, reply_after};
 
 use rules::{Access, Making, Reply};
 
@@ -19,8 +19,8 @@ use rules::{Access, Making, Reply};
 // they were.
 #[unsafe(no_mangle)]
 pub extern "C" fn kt11b_fresh(unit: &mut [u16; coding::WORDS], cells: u64) -> u64
-    ensures words { unit.new ≡ wordsMade unit.old (size_of cells) }
-    ensures reply { result ≡ replyWord (makingShown (size_of cells)) }
+    ensures words { unit.new ≡ words_made unit.old (size_of cells) }
+    ensures reply { result ≡ reply_word (making_shown (size_of cells)) }
 {
     let how = sizes::size_of(cells);
     let reply = replies::making_replied(how);
@@ -37,7 +37,7 @@ pub extern "C" fn kt11b_fresh(unit: &mut [u16; coding::WORDS], cells: u64) -> u6
 // The unit that a call leaves goes back into its words, and its answer to the host.
 fn put_back(unit: &mut [u16; coding::WORDS], reply: Reply) -> u64
     ensures words { unit.new ≡ coded reply.unit }
-    ensures answer { result ≡ replyWord (shown reply.answer) }
+    ensures answer { result ≡ reply_word (shown reply.answer) }
 {
     let u = reply.unit;
     let after = coding::coded(u);
@@ -50,7 +50,7 @@ fn put_back(unit: &mut [u16; coding::WORDS], reply: Reply) -> u64
 fn by_steps(unit: &mut [u16; coding::WORDS], memory: &mut [u8], q: Access) -> u64
     ensures words { unit.new ≡ coded (call_of memory.old (decoded unit.old) (Call.Access q)).reply.unit }
     ensures memory { memory.new ≡ (call_of memory.old (decoded unit.old) (Call.Access q)).memory }
-    ensures reply { result ≡ replyWord (shown (call_of memory.old (decoded unit.old) (Call.Access q)).reply.answer) }
+    ensures reply { result ≡ reply_word (shown (call_of memory.old (decoded unit.old) (Call.Access q)).reply.answer) }
 {
     let reply = unit::access(coding::decoded(*unit), memory, q);
     put_back(unit, reply)
@@ -58,9 +58,9 @@ fn by_steps(unit: &mut [u16; coding::WORDS], memory: &mut [u8], q: Access) -> u6
 
 // An access as it comes: the usual one on the core alone, any other by all its steps.
 fn by_sort(unit: &mut [u16; coding::WORDS], memory: &mut [u8], q: Access) -> u64
-    ensures words { unit.new ≡ wordsAfter memory.old unit.old (Call.Access q) }
-    ensures memory { memory.new ≡ memoryAfter memory.old unit.old (Call.Access q) }
-    ensures reply { result ≡ replyAfter memory.old unit.old (Call.Access q) }
+    ensures words { unit.new ≡ words_after memory.old unit.old (Call.Access q) }
+    ensures memory { memory.new ≡ memory_after memory.old unit.old (Call.Access q) }
+    ensures reply { result ≡ reply_after memory.old unit.old (Call.Access q) }
 {
     let w = *unit;
     if coding::is_unit(w) {
@@ -96,9 +96,9 @@ pub extern "C" fn kt11b_access(
     address: u16,
     datum: u16,
 ) -> u64
-    ensures words { unit.new ≡ wordsAfter memory.old unit.old (Call.Access (record { op = operation; state = state; width = width; addr = address; datum = datum })) }
-    ensures memory { memory.new ≡ memoryAfter memory.old unit.old (Call.Access (record { op = operation; state = state; width = width; addr = address; datum = datum })) }
-    ensures reply { result ≡ replyAfter memory.old unit.old (Call.Access (record { op = operation; state = state; width = width; addr = address; datum = datum })) }
+    ensures words { unit.new ≡ words_after memory.old unit.old (Call.Access (record { op = operation; state = state; width = width; addr = address; datum = datum })) }
+    ensures memory { memory.new ≡ memory_after memory.old unit.old (Call.Access (record { op = operation; state = state; width = width; addr = address; datum = datum })) }
+    ensures reply { result ≡ reply_after memory.old unit.old (Call.Access (record { op = operation; state = state; width = width; addr = address; datum = datum })) }
 {
     let q = Access {
         op: operation,
@@ -112,8 +112,8 @@ pub extern "C" fn kt11b_access(
 
 #[unsafe(no_mangle)]
 pub extern "C" fn kt11b_interrupt(unit: &mut [u16; coding::WORDS]) -> u64
-    ensures words { (m : Memory) → unit.new ≡ wordsAfter m unit.old Call.Interrupt }
-    ensures reply { (m : Memory) → result ≡ replyAfter m unit.old Call.Interrupt }
+    ensures words { (m : Memory) → unit.new ≡ words_after m unit.old Call.Interrupt }
+    ensures reply { (m : Memory) → result ≡ reply_after m unit.old Call.Interrupt }
 {
     let w = *unit;
     if coding::is_unit(w) {
@@ -125,8 +125,8 @@ pub extern "C" fn kt11b_interrupt(unit: &mut [u16; coding::WORDS]) -> u64
 
 #[unsafe(no_mangle)]
 pub extern "C" fn kt11b_trap(unit: &mut [u16; coding::WORDS], vector: u64) -> u64
-    ensures words { (m : Memory) → unit.new ≡ wordsAfter m unit.old (Call.Trap vector) }
-    ensures reply { (m : Memory) → result ≡ replyAfter m unit.old (Call.Trap vector) }
+    ensures words { (m : Memory) → unit.new ≡ words_after m unit.old (Call.Trap vector) }
+    ensures reply { (m : Memory) → result ≡ reply_after m unit.old (Call.Trap vector) }
 {
     let w = *unit;
     if coding::is_unit(w) {
@@ -138,8 +138,8 @@ pub extern "C" fn kt11b_trap(unit: &mut [u16; coding::WORDS], vector: u64) -> u6
 
 #[unsafe(no_mangle)]
 pub extern "C" fn kt11b_init(unit: &mut [u16; coding::WORDS]) -> u64
-    ensures words { (m : Memory) → unit.new ≡ wordsAfter m unit.old Call.Init }
-    ensures reply { (m : Memory) → result ≡ replyAfter m unit.old Call.Init }
+    ensures words { (m : Memory) → unit.new ≡ words_after m unit.old Call.Init }
+    ensures reply { (m : Memory) → result ≡ reply_after m unit.old Call.Init }
 {
     let w = *unit;
     if coding::is_unit(w) {
@@ -154,7 +154,7 @@ pub extern "C" fn kt11b_init(unit: &mut [u16; coding::WORDS]) -> u64
 // A register by its number in the table of addresses: KTMR 1, KTCS 2, and on to KTEM 10.
 #[unsafe(no_mangle)]
 pub extern "C" fn kt11b_register(unit: &[u16; coding::WORDS], number: usize) -> u64
-    ensures { result ≡ registerRead unit.now number }
+    ensures { result ≡ register_read unit.now number }
 {
     panel::register_read(*unit, number)
 }
@@ -162,28 +162,28 @@ pub extern "C" fn kt11b_register(unit: &[u16; coding::WORDS], number: usize) -> 
 // How many cells the unit has.
 #[unsafe(no_mangle)]
 pub extern "C" fn kt11b_cells(unit: &[u16; coding::WORDS]) -> u64
-    ensures { result ≡ countRead unit.now }
+    ensures { result ≡ count_read unit.now }
 {
     panel::count_read(*unit)
 }
 
 #[unsafe(no_mangle)]
 pub extern "C" fn kt11b_cell_tag(unit: &[u16; coding::WORDS], index: usize) -> u64
-    ensures { result ≡ tagRead unit.now index }
+    ensures { result ≡ tag_read unit.now index }
 {
     panel::tag_read(*unit, index)
 }
 
 #[unsafe(no_mangle)]
 pub extern "C" fn kt11b_cell_word(unit: &[u16; coding::WORDS], index: usize) -> u64
-    ensures { result ≡ wordRead unit.now index }
+    ensures { result ≡ word_read unit.now index }
 {
     panel::word_read(*unit, index)
 }
 
 #[unsafe(no_mangle)]
 pub extern "C" fn kt11b_counter(unit: &[u16; coding::WORDS]) -> u64
-    ensures { result ≡ counterRead unit.now }
+    ensures { result ≡ counter_read unit.now }
 {
     panel::counter_read(*unit)
 }
@@ -191,7 +191,7 @@ pub extern "C" fn kt11b_counter(unit: &[u16; coding::WORDS]) -> u64
 // 0 nothing, 1 and 2 the SERVICE DATOs, 3 the second START read.
 #[unsafe(no_mangle)]
 pub extern "C" fn kt11b_wait(unit: &[u16; coding::WORDS]) -> u64
-    ensures { result ≡ waitRead unit.now }
+    ensures { result ≡ wait_read unit.now }
 {
     panel::wait_read(*unit)
 }
@@ -199,7 +199,7 @@ pub extern "C" fn kt11b_wait(unit: &[u16; coding::WORDS]) -> u64
 // Where the page that a map register's word names begins, in a memory of this length, or the number that says that there is none.
 #[unsafe(no_mangle)]
 pub extern "C" fn kt11b_map_page(length: usize, word: u16) -> usize
-    ensures { result ≡ pagePlace length word }
+    ensures { result ≡ page_place length word }
 {
     panel::page_place(length, word)
 }

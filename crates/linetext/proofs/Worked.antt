@@ -6,8 +6,8 @@ use Prim.Native.String.{String, [] as []ˢ, ◌∷◌ as ◌∷ˢ◌}
 use mathlib.Core.Path.{◌≡◌, refl}
 use mathlib.Core.List.{List, [], ◌∷◌}
 use Rattle.fieldtext.specs.Cut.{fields, onto}
-use Rattle.fieldtext.specs.Number.{isDigit, allDigits, worthFrom, areDigits, worth, is_number}
-use Rattle.linetext.specs.Line.{allNumbers, numbers, store_of, accessOf, trapOf, aloneOf, byLetter, byName, fromFields, line_of}
+use Rattle.fieldtext.specs.Number.{is_digit, all_digits, worth_from, are_digits, worth, is_number}
+use Rattle.linetext.specs.Line.{all_numbers, numbers, store_of, access_of, trap_of, alone_of, by_letter, by_name, from_fields, line_of}
 use Rattle.linetext.specs.declared.Line.{Line}
 use Rattle.linetext.specs.declared.Line.TheVariants.{Store, Access, Interrupt, Trap, Init, Bad}
 
@@ -25,15 +25,15 @@ good : (asks "W\t001402\t160002" ≡ Store 0o1402 0o160002)
     × (asks "I" ≡ Interrupt)
     × (asks "T\t14" ≡ Trap 0o14)
     × (asks "X" ≡ Init)
-unfolding asks line_of fromFields byName byLetter store_of accessOf trapOf aloneOf numbers allNumbers is_number worth worthFrom areDigits allDigits isDigit fields onto pick
+unfolding asks line_of from_fields by_name by_letter store_of access_of trap_of alone_of numbers all_numbers is_number worth worth_from are_digits all_digits is_digit fields onto pick
 good = (refl, refl, refl, refl, refl, refl)
 
 -- an empty line, another letter, too few and too many fields, a tab at the end
-bad-fields : (asks "" ≡ Bad) × (asks "Q" ≡ Bad) × (asks "W\t2" ≡ Bad) × (asks "T\t4\t4" ≡ Bad) × (asks "T\t4\t" ≡ Bad) × (asks "I\t" ≡ Bad)
-unfolding asks line_of fromFields byName byLetter store_of accessOf trapOf aloneOf numbers allNumbers is_number worth worthFrom areDigits allDigits isDigit fields onto pick
-bad-fields = (refl, refl, refl, refl, refl, refl)
+bad_fields : (asks "" ≡ Bad) × (asks "Q" ≡ Bad) × (asks "W\t2" ≡ Bad) × (asks "T\t4\t4" ≡ Bad) × (asks "T\t4\t" ≡ Bad) × (asks "I\t" ≡ Bad)
+unfolding asks line_of from_fields by_name by_letter store_of access_of trap_of alone_of numbers all_numbers is_number worth worth_from are_digits all_digits is_digit fields onto pick
+bad_fields = (refl, refl, refl, refl, refl, refl)
 
 -- a digit 8, a seventh digit, a number above 177777, an odd address to store at, a blank, a carriage return
-bad-numbers : (asks "T\t18" ≡ Bad) × (asks "T\t0000004" ≡ Bad) × (asks "T\t200000" ≡ Bad) × (asks "W\t3\t0" ≡ Bad) × (asks "T\t 4" ≡ Bad) × (asks "X\r" ≡ Bad)
-unfolding asks line_of fromFields byName byLetter store_of accessOf trapOf aloneOf numbers allNumbers is_number worth worthFrom areDigits allDigits isDigit fields onto pick
-bad-numbers = (refl, refl, refl, refl, refl, refl)
+bad_numbers : (asks "T\t18" ≡ Bad) × (asks "T\t0000004" ≡ Bad) × (asks "T\t200000" ≡ Bad) × (asks "W\t3\t0" ≡ Bad) × (asks "T\t 4" ≡ Bad) × (asks "X\r" ≡ Bad)
+unfolding asks line_of from_fields by_name by_letter store_of access_of trap_of alone_of numbers all_numbers is_number worth worth_from are_digits all_digits is_digit fields onto pick
+bad_numbers = (refl, refl, refl, refl, refl, refl)

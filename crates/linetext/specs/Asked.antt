@@ -2,5 +2,5 @@
 use Rattle.rules.specs.declared.Access.{Access}
 use Rattle.linetext.specs.declared.Fields.{Fields}
 
-abbrev pub accessIn : Fields → Access
-accessIn f = record { op = f.op; state = f.state; width = f.width; addr = f.addr; datum = f.datum }
+abbrev pub access_in : Fields → Access
+access_in f = record { op = f.op; state = f.state; width = f.width; addr = f.addr; datum = f.datum }

@@ -6,13 +6,13 @@ use Rattle.fieldtext.specs.Number.{is_number, worth}
 use Rattle.linetext.specs.declared.Line.{Line}
 use Rattle.linetext.specs.declared.Line.TheVariants.{Store, Access, Interrupt, Trap, Init, Bad}
 
-unfoldable pub allNumbers : List (List ℕ) → Bool
-allNumbers [] = true
-allNumbers (f ∷ fs) = is_number f && allNumbers fs
+unfoldable pub all_numbers : List (List ℕ) → Bool
+all_numbers [] = true
+all_numbers (f ∷ fs) = is_number f && all_numbers fs
 
 -- exactly n fields, each a number
 unfoldable pub numbers : ℕ → List (List ℕ) → Bool
-numbers n fs = eqb (length fs) n && allNumbers fs
+numbers n fs = eqb (length fs) n && all_numbers fs
 
 -- the number in field k
 abbrev pub the : List (List ℕ) → ℕ → ℕ
@@ -23,35 +23,35 @@ unfoldable pub store_of : List (List ℕ) → Line
 store_of fs = pick (numbers 2 fs && eqb (the fs 0 % 2) 0) (Store (the fs 0) (the fs 1)) Bad
 
 -- "`A` operation state width address data"
-unfoldable pub accessOf : List (List ℕ) → Line
-accessOf fs =
+unfoldable pub access_of : List (List ℕ) → Line
+access_of fs =
     pick (numbers 5 fs)
     (Access (record { op = the fs 0; state = the fs 1; width = the fs 2; addr = the fs 3; datum = the fs 4 }))
     Bad
 
 -- "`T` vector"
-unfoldable pub trapOf : List (List ℕ) → Line
-trapOf fs = pick (numbers 1 fs) (Trap (the fs 0)) Bad
+unfoldable pub trap_of : List (List ℕ) → Line
+trap_of fs = pick (numbers 1 fs) (Trap (the fs 0)) Bad
 
 -- "`I` (interrupt)", "`X` (INIT)": the letter alone
-unfoldable pub aloneOf : Line → List (List ℕ) → Line
-aloneOf l fs = pick (numbers 0 fs) l Bad
+unfoldable pub alone_of : Line → List (List ℕ) → Line
+alone_of l fs = pick (numbers 0 fs) l Bad
 
 -- by the letter's byte: W, A, I, T, X
-unfoldable pub byLetter : ℕ → List (List ℕ) → Line
-byLetter b fs =
+unfoldable pub by_letter : ℕ → List (List ℕ) → Line
+by_letter b fs =
     pick (eqb b 87) (store_of fs)
-    (pick (eqb b 65) (accessOf fs)
-    (pick (eqb b 73) (aloneOf Interrupt fs)
-    (pick (eqb b 84) (trapOf fs) (pick (eqb b 88) (aloneOf Init fs) Bad))))
+    (pick (eqb b 65) (access_of fs)
+    (pick (eqb b 73) (alone_of Interrupt fs)
+    (pick (eqb b 84) (trap_of fs) (pick (eqb b 88) (alone_of Init fs) Bad))))
 
 -- the first field is one letter
-unfoldable pub byName : List ℕ → List (List ℕ) → Line
-byName name fs = pick (eqb (length name) 1) (byLetter (get_or name 0 0) fs) Bad
+unfoldable pub by_name : List ℕ → List (List ℕ) → Line
+by_name name fs = pick (eqb (length name) 1) (by_letter (get_or name 0 0) fs) Bad
 
-unfoldable pub fromFields : List (List ℕ) → Line
-fromFields [] = Bad
-fromFields (name ∷ fs) = byName name fs
+unfoldable pub from_fields : List (List ℕ) → Line
+from_fields [] = Bad
+from_fields (name ∷ fs) = by_name name fs
 
 unfoldable pub line_of : List ℕ → Line
-line_of s = fromFields (fields s)
+line_of s = from_fields (fields s)

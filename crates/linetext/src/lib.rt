@@ -2,8 +2,8 @@
 ghost use Rattle.std.specs.Prelude.{◌≡◌, true};
 ghost use Rattle.fieldtext.specs.Cut.{fields_at};
 ghost use Rattle.fieldtext.specs.Reading.{Took};
-ghost use Rattle.linetext.specs.Line.{line_of, store_of, accessOf, trapOf, aloneOf, byLetter};
-ghost use Rattle.linetext.specs.Asked.{accessIn};
+ghost use Rattle.linetext.specs.Line.{line_of, store_of, access_of, trap_of, alone_of, by_letter};
+ghost use Rattle.linetext.specs.Asked.{access_in};
 
 use fieldtext::Reading;
 
@@ -58,7 +58,7 @@ fn store(line: &[u8]) -> Line
 
 // "`A` operation state width address data"
 fn access(line: &[u8]) -> Line
-    ensures { result ≡ accessOf (fields_at line.now 2) }
+    ensures { result ≡ access_of (fields_at line.now 2) }
 {
     let op = first_number(line);
     let state = fieldtext::next_number(line, op);
@@ -80,7 +80,7 @@ fn access(line: &[u8]) -> Line
 
 // "`T` vector"
 fn trap(line: &[u8]) -> Line
-    ensures { result ≡ trapOf (fields_at line.now 2) }
+    ensures { result ≡ trap_of (fields_at line.now 2) }
 {
     let vector = first_number(line);
     if fieldtext::finished(line, vector) {
@@ -92,14 +92,14 @@ fn trap(line: &[u8]) -> Line
 
 // "`I` (interrupt)", "`X` (INIT)": the letter is the whole line.
 fn alone(line: &[u8], asks: Line) -> Line
-    ensures { result ≡ aloneOf asks (fields_at line.now 2) }
+    ensures { result ≡ alone_of asks (fields_at line.now 2) }
 {
     if line.len() < 2 { asks } else { Line::Bad }
 }
 
 // What the letter asks for, with the numbers after it.
 fn by_letter(line: &[u8], letter: u8) -> Line
-    ensures { result ≡ byLetter letter (fields_at line.now 2) }
+    ensures { result ≡ by_letter letter (fields_at line.now 2) }
 {
     match letter {
         b'W' => store(line),
@@ -123,7 +123,7 @@ pub fn parse(line: &[u8]) -> Line
 
 // The access that an `A` line asks for.
 pub fn access_in(f: Fields) -> rules::Access
-    ensures { result ≡ accessIn f }
+    ensures { result ≡ access_in f }
 {
     rules::Access {
         op: f.op as u64,

@@ -1,7 +1,7 @@
 // The walk of the maps, and the look-up through the cells (01, "From address to entry").
 ghost use Rattle.std.specs.Prelude.{◌≡◌};
-ghost use Rattle.rules.specs.Maps.{wordWalk, followed, pointerWalk, execWalk, userWalk, walk_of, entry_of};
-ghost use Rattle.rules.specs.Maps.{execZeroEntry, tagOf, cell_of, filledBy, missed, soughtIn, looked};
+ghost use Rattle.rules.specs.Maps.{word_walk, followed, pointer_walk, exec_walk, user_walk, walk_of, entry_of};
+ghost use Rattle.rules.specs.Maps.{exec_zero_entry, tag_of, cell_of, filled_by, missed, sought_in, looked};
 
 use rules::{Cells, Entry, Found, Looked, Maps, Reads, Walk};
 
@@ -9,7 +9,7 @@ use rules::{Cells, Entry, Found, Looked, Maps, Reads, Walk};
 
 // "A map word or pointer at or beyond L is a time-out.": "The walk itself should report that it ran off memory" (T-01).
 fn word_walk(m: &[u8], at: usize) -> Walk
-    ensures { result ≡ wordWalk m.now at }
+    ensures { result ≡ word_walk m.now at }
 {
     if at < m.len() {
         Walk::Finished(memory::word_at(m, at), Reads::Direct(at))
@@ -31,7 +31,7 @@ fn followed(m: &[u8], from: usize, to: usize) -> Walk
 
 // "Other user pages: the word at that same place is a pointer"
 fn pointer_walk(m: &[u8], from: usize) -> Walk
-    ensures { result ≡ pointerWalk m.now from }
+    ensures { result ≡ pointer_walk m.now from }
 {
     if from < m.len() {
         followed(m, from, pages::pointed_at(memory::word_at(m, from)))
@@ -42,7 +42,7 @@ fn pointer_walk(m: &[u8], from: usize) -> Walk
 
 // "Exec simple: word at 512·M(KTEM)+256+2p. Other exec pages: word at 512·M(KTUM)+2p."
 fn exec_walk(m: &[u8], maps: Maps, p: u8) -> Walk
-    ensures { result ≡ execWalk m.now maps p }
+    ensures { result ≡ exec_walk m.now maps p }
 {
     if pages::simple(maps.ktem, p) {
         word_walk(m, pages::upper_at(pages::low9(maps.ktem), p))
@@ -53,7 +53,7 @@ fn exec_walk(m: &[u8], maps: Maps, p: u8) -> Walk
 
 // "User simple: word at 512·M(KTUM)+256+2p. Other user pages: the word at that same place is a pointer"
 fn user_walk(m: &[u8], maps: Maps, p: u8) -> Walk
-    ensures { result ≡ userWalk m.now maps p }
+    ensures { result ≡ user_walk m.now maps p }
 {
     let at = pages::upper_at(pages::low9(maps.ktum), p);
     if pages::simple(maps.ktum, p) {
@@ -88,14 +88,14 @@ pub fn entry_of(w: Walk) -> Entry
 
 // "Exec page 0: physical page M of KTEM, no cell, every key passes."
 fn exec_zero_entry(maps: Maps) -> Entry
-    ensures { result ≡ execZeroEntry maps }
+    ensures { result ≡ exec_zero_entry maps }
 {
     Entry::ExecZero(pages::low9(maps.ktem))
 }
 
 // "A finished walk fills the cell the counter names .. A walk that times out fills nothing.", which is one that ran off memory.
 fn filled_by(k: Cells, tag: u16, w: Walk) -> Cells
-    ensures { result ≡ filledBy k tag w }
+    ensures { result ≡ filled_by k tag w }
 {
     match w {
         Walk::Finished(word, _) => cells::filled(k, tag, word),
@@ -115,7 +115,7 @@ fn missed(k: Cells, tag: u16, w: Walk) -> Looked
 
 // A page that may have a cell. "A hit uses the cell."
 fn sought(m: &[u8], maps: Maps, user: bool, p: u8, k: Cells) -> Looked
-    ensures { result ≡ soughtIn m.now maps user p k (cell_of k (tagOf user p)) }
+    ensures { result ≡ sought_in m.now maps user p k (cell_of k (tag_of user p)) }
 {
     let tag = pages::tag_of(user, p);
     let list = k.list;

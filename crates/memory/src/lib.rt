@@ -1,8 +1,8 @@
 // Bytes and words of lent memory, low byte first, and the map page that tools get.
 // Every function takes any address: past the end there is nothing to read, and nothing is stored.
 ghost use Rattle.std.specs.Prelude.{◌≡◌, ◌<◌};
-ghost use Rattle.rules.specs.Memory.{goodLength, byte_at, wordAt, evenOf, storeWord, storeByte};
-ghost use Rattle.rules.specs.Tools.{mapPage};
+ghost use Rattle.rules.specs.Memory.{good_length, byte_at, word_at, even_of, store_word, store_byte};
+ghost use Rattle.rules.specs.Tools.{map_page};
 ghost use Rattle.rules.specs.Maps.{low9};
 
 fn wide(x: u8) -> u16
@@ -13,13 +13,13 @@ fn wide(x: u8) -> u16
 
 // "its length L is even, at most 253,952 (760000o)"
 pub fn good_length(len: usize) -> bool
-    ensures { result ≡ goodLength len }
+    ensures { result ≡ good_length len }
 {
     if len % 2 == 0 { len <= 0o760000 } else { false }
 }
 
 pub fn even_of(at: usize) -> usize
-    ensures { result ≡ evenOf at }
+    ensures { result ≡ even_of at }
 {
     at / 2 * 2
 }
@@ -31,7 +31,7 @@ pub fn byte_at(m: &[u8], at: usize) -> u16
 }
 
 pub fn word_at(m: &[u8], at: usize) -> u16
-    ensures { result ≡ wordAt m.now at }
+    ensures { result ≡ word_at m.now at }
 {
     if at < m.len() {
         byte_at(m, at) + 256 * byte_at(m, at + 1)
@@ -41,7 +41,7 @@ pub fn word_at(m: &[u8], at: usize) -> u16
 }
 
 pub fn store_byte(m: &mut [u8], at: usize, v: u16)
-    ensures { m.new ≡ storeByte m.old at v }
+    ensures { m.new ≡ store_byte m.old at v }
 {
     if at < m.len() {
         m[at] = (v % 256) as u8;
@@ -49,7 +49,7 @@ pub fn store_byte(m: &mut [u8], at: usize, v: u16)
 }
 
 pub fn store_word(m: &mut [u8], at: usize, v: u16)
-    ensures { m.new ≡ storeWord m.old at v }
+    ensures { m.new ≡ store_word m.old at v }
 {
     if at < m.len() {
         store_byte(m, at, v);
@@ -59,7 +59,7 @@ pub fn store_word(m: &mut [u8], at: usize, v: u16)
 
 // "Tools that read a map get the page a map register names as a part of the caller's memory, or an empty part"
 pub fn map_page(m: &[u8], register: u16) -> &[u8]
-    ensures { result.now ≡ mapPage m.now register }
+    ensures { result.now ≡ map_page m.now register }
 {
     let at = 512 * ((register as usize) % 512);
     let end = at + 512;

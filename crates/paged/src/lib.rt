@@ -2,14 +2,14 @@
 ghost use Rattle.std.specs.Prelude.{◌≡◌};
 ghost use Rattle.rules.specs.Program.{run};
 ghost use Rattle.rules.specs.Choice.{pick};
-ghost use Rattle.rules.specs.Fetched.{isFetch};
-ghost use Rattle.rules.specs.Order.{outerFault, innerTarget, innerRuled, windowed, pagedReached, outerTarget, outerRuled, pagedFrom};
+ghost use Rattle.rules.specs.Fetched.{is_fetch};
+ghost use Rattle.rules.specs.Order.{outer_fault, inner_target, inner_ruled, windowed, paged_reached, outer_target, outer_ruled, paged_from};
 
 use rules::{Cells, Entry, Fault, Job, Place, Ran, Ruling, Target};
 
 // Step 10 of the window's inner access; "window on window: time-out at step 10".
 fn inner_target(m: &[u8], j: Job, at: usize, pl: Place, k: Cells) -> Ran
-    ensures { result ≡ run m.now j.maps (innerTarget m.now j at pl) k }
+    ensures { result ≡ run m.now j.maps (inner_target m.now j at pl) k }
 {
     match pl {
         Place::There(t) => transfer::transferred(m, j, at, t, k),
@@ -20,7 +20,7 @@ fn inner_target(m: &[u8], j: Job, at: usize, pl: Place, k: Cells) -> Ran
 
 // What steps 6 to 8 say of the inner page's entry.
 fn inner_ruled(m: &[u8], j: Job, ruling: Ruling, k: Cells) -> Ran
-    ensures { result ≡ run m.now j.maps (innerRuled m.now j ruling) k }
+    ensures { result ≡ run m.now j.maps (inner_ruled m.now j ruling) k }
 {
     match ruling {
         Ruling::Refused(f) => transfer::ended(endings::inner_fault(j, f), k),
@@ -51,7 +51,7 @@ fn windowed(m: &[u8], j: Job, k: Cells) -> Ran
 
 // A target that is there: step 11 for a fetch, the transfer otherwise.
 fn paged_reached(m: &[u8], j: Job, at: usize, e: Entry, t: Target, k: Cells) -> Ran
-    ensures { result ≡ run m.now j.maps (pagedReached m.now j at e t) k }
+    ensures { result ≡ run m.now j.maps (paged_reached m.now j at e t) k }
 {
     let q = j.q;
     if fetched::is_fetch(q) {
@@ -63,7 +63,7 @@ fn paged_reached(m: &[u8], j: Job, at: usize, e: Entry, t: Target, k: Cells) -> 
 
 // A paged access to the window goes on, but by fetch it is a time-out.
 fn outer_window(m: &[u8], j: Job, k: Cells) -> Ran
-    ensures { result ≡ run m.now j.maps (pick (isFetch j.q) (outerFault j Fault.NoTarget) (windowed m.now j)) k }
+    ensures { result ≡ run m.now j.maps (pick (is_fetch j.q) (outer_fault j Fault.NoTarget) (windowed m.now j)) k }
 {
     let q = j.q;
     if fetched::is_fetch(q) {
@@ -74,7 +74,7 @@ fn outer_window(m: &[u8], j: Job, k: Cells) -> Ran
 
 // "10. Target at or beyond L and not a register above (9)."
 fn outer_target(m: &[u8], j: Job, at: usize, e: Entry, pl: Place, k: Cells) -> Ran
-    ensures { result ≡ run m.now j.maps (outerTarget m.now j at e pl) k }
+    ensures { result ≡ run m.now j.maps (outer_target m.now j at e pl) k }
 {
     match pl {
         Place::There(t) => paged_reached(m, j, at, e, t, k),
@@ -85,7 +85,7 @@ fn outer_target(m: &[u8], j: Job, at: usize, e: Entry, pl: Place, k: Cells) -> R
 
 // What steps 6 to 9 say of the page's entry.
 fn outer_ruled(m: &[u8], j: Job, e: Entry, ruling: Ruling, k: Cells) -> Ran
-    ensures { result ≡ run m.now j.maps (outerRuled m.now j e ruling) k }
+    ensures { result ≡ run m.now j.maps (outer_ruled m.now j e ruling) k }
 {
     match ruling {
         Ruling::Refused(f) => transfer::ended(endings::outer_fault(j, f), k),
@@ -100,7 +100,7 @@ fn outer_ruled(m: &[u8], j: Job, e: Entry, ruling: Ruling, k: Cells) -> Ran
 
 // Step 5, and step 6's question for the page's entry; j's core is as step 4 left it.
 pub fn paged_from(m: &[u8], j: Job, k: Cells) -> Ran
-    ensures { result ≡ run m.now j.maps (pagedFrom m.now j) k }
+    ensures { result ≡ run m.now j.maps (paged_from m.now j) k }
 {
     if steps::odd_word(j.q.width, j.q.addr) {
         return transfer::ended(endings::outer_fault(j, Fault::OddAddress), k);

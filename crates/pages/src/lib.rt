@@ -1,8 +1,8 @@
 // Pages and addresses: unpaged or paged, page and offset, the bits of map words, and where in a map page each word stands (01, "From address to entry").
 // A page number has 7 bits and is a u8, a physical page has 9 and is a u16; every function takes any value of these.
 ghost use Rattle.std.specs.Prelude.{◌≡◌, ◌<◌};
-ghost use Rattle.rules.specs.Maps.{unpaged, unpagedAt, page_of, physicalAt, residentBit, publicBit, writeBit};
-ghost use Rattle.rules.specs.Maps.{low9, high7, simple, upperAt, lowerAt, pointedAt, execZero, tagOf};
+ghost use Rattle.rules.specs.Maps.{unpaged, unpaged_at, page_of, physical_at, resident_bit, public_bit, write_bit};
+ghost use Rattle.rules.specs.Maps.{low9, high7, simple, upper_at, lower_at, pointed_at, exec_zero, tag_of};
 
 // Addresses ------------------------------------------------------------------------------------------------------------
 
@@ -22,7 +22,7 @@ pub fn unpaged(fcn: u16, state: u64) -> bool
 
 // "Physical equals virtual, but 160000o-177777o become 760000o-777777o (PDP-11 rule)."
 pub fn unpaged_at(a: u16) -> usize
-    ensures { (result ≡ unpagedAt a) × (result < 0o1000000) }
+    ensures { (result ≡ unpaged_at a) × (result < 0o1000000) }
 {
     let at = a as usize;
     if at < 0o160000 { at } else { at + 0o600000 }
@@ -37,7 +37,7 @@ pub fn page_of(a: u16) -> u8
 
 // The address in a physical page, with the offset of a virtual one.
 pub fn physical_at(page: u16, a: u16) -> usize
-    ensures { (result ≡ physicalAt page a) × (result < 0o200000000) }
+    ensures { (result ≡ physical_at page a) × (result < 0o200000000) }
 {
     512 * (page as usize) + a as usize % 512
 }
@@ -46,19 +46,19 @@ pub fn physical_at(page: u16, a: u16) -> usize
 
 // "bit 15 resident, 14 public, 13 write-enabled"
 pub fn resident_bit(w: u16) -> bool
-    ensures { result ≡ residentBit w }
+    ensures { result ≡ resident_bit w }
 {
     w / 0o100000 % 2 == 1
 }
 
 pub fn public_bit(w: u16) -> bool
-    ensures { result ≡ publicBit w }
+    ensures { result ≡ public_bit w }
 {
     w / 0o40000 % 2 == 1
 }
 
 pub fn write_bit(w: u16) -> bool
-    ensures { result ≡ writeBit w }
+    ensures { result ≡ write_bit w }
 {
     w / 0o20000 % 2 == 1
 }
@@ -86,21 +86,21 @@ pub fn simple(register: u16, p: u8) -> bool
 
 // "512·M(KTEM)+256+2p", "512·M(KTUM)+256+2p", "512·m+256+2n": the upper half of a map page has the simple words and the pointers.
 pub fn upper_at(page: u16, p: u8) -> usize
-    ensures { result ≡ upperAt page p }
+    ensures { result ≡ upper_at page p }
 {
     512 * (page as usize) + 256 + 2 * (p as usize)
 }
 
 // "512·M(KTUM)+2p": the lower half of the user's has the exec pages that are not simple.
 pub fn lower_at(page: u16, p: u8) -> usize
-    ensures { result ≡ lowerAt page p }
+    ensures { result ≡ lower_at page p }
 {
     512 * (page as usize) + 2 * (p as usize)
 }
 
 // "a pointer, high 7 bits n, low 9 bits m; the map word is at 512·m+256+2n"
 pub fn pointed_at(pointer: u16) -> usize
-    ensures { result ≡ pointedAt pointer }
+    ensures { result ≡ pointed_at pointer }
 {
     upper_at(low9(pointer), high7(pointer))
 }
@@ -109,14 +109,14 @@ pub fn pointed_at(pointer: u16) -> usize
 
 // "Exec page 0": the only page that has neither map word nor cell.
 pub fn exec_zero(user: bool, p: u8) -> bool
-    ensures { result ≡ execZero user p }
+    ensures { result ≡ exec_zero user p }
 {
     if user { false } else { p == 0 }
 }
 
 // "Tag: 128 for user plus p; 0 means empty."
 pub fn tag_of(user: bool, p: u8) -> u16
-    ensures { result ≡ tagOf user p }
+    ensures { result ≡ tag_of user p }
 {
     if user { 128 + p as u16 } else { p as u16 }
 }

@@ -9,13 +9,13 @@ use borrow.Author.Tests.{ne_eqb}
 use Rattle.rules.specs.Choice.{pick}
 use Rattle.rules.specs.Memory.{Memory}
 use Rattle.rules.specs.Maps.{low9}
-use Rattle.rules.specs.Tools.{mapPage}
-use Rattle.panel.specs.Panel.{noPage, pagePlace, pageAt}
+use Rattle.rules.specs.Tools.{map_page}
+use Rattle.panel.specs.Panel.{no_page, page_place, page_at}
 
-pub page-part : (m : Memory) (r : ℕ) → pageAt m (pagePlace (length m) r) ≡ mapPage m r
-unfolding pageAt pagePlace mapPage low9 pick
-page-part m r = go (leb (512 * (r % 512) + 512) (length m)) refl
+pub page_part : (m : Memory) (r : ℕ) → page_at m (page_place (length m) r) ≡ map_page m r
+unfolding page_at page_place map_page low9 pick
+page_part m r = go (leb (512 * (r % 512) + 512) (length m)) refl
   where
-    go : (b : Bool) → leb (512 * (r % 512) + 512) (length m) ≡ b → pageAt m (pagePlace (length m) r) ≡ mapPage m r
-    go true e = simp (e, ne_eqb (512 * (r % 512)) noPage (λ h. omega arith))
+    go : (b : Bool) → leb (512 * (r % 512) + 512) (length m) ≡ b → page_at m (page_place (length m) r) ≡ map_page m r
+    go true e = simp (e, ne_eqb (512 * (r % 512)) no_page (λ h. omega arith))
     go false e = simp e

@@ -1,8 +1,8 @@
 // What a front panel or a debugger reads of the words of a unit, and where a map page lies. Nothing here changes anything.
 ghost use Rattle.std.specs.Prelude.{◌≡◌, ◌≤◌};
-ghost use Rattle.rules.specs.Unit.{countOf, cell_at};
+ghost use Rattle.rules.specs.Unit.{count_of, cell_at};
 ghost use Rattle.coding.specs.Coding.{decoded};
-ghost use Rattle.panel.specs.Panel.{registerTold, registerRead, countRead, cellRead, tagRead, wordRead, counterRead, waitRead, pagePlace};
+ghost use Rattle.panel.specs.Panel.{register_told, register_read, count_read, cell_read, tag_read, word_read, counter_read, wait_read, page_place};
 
 use rules::{Cell, Register, Unit};
 
@@ -11,7 +11,7 @@ const NO_PAGE: usize = 0xffffffffffffffff;
 
 // A register as an access would read it.
 fn register_told(u: Unit, g: Register) -> u64
-    ensures { result ≡ registerTold u g }
+    ensures { result ≡ register_told u g }
 {
     let c = u.core;
     let maps = u.maps;
@@ -21,7 +21,7 @@ fn register_told(u: Unit, g: Register) -> u64
 
 // A register by its number in the table of addresses: KTMR 1, KTCS 2, and on to KTEM 10.
 pub fn register_read(w: [u16; coding::WORDS], number: usize) -> u64
-    ensures { result ≡ registerRead w number }
+    ensures { result ≡ register_read w number }
 {
     if coding::is_unit(w) {
         if (0 < number) & (number < 11) {
@@ -34,7 +34,7 @@ pub fn register_read(w: [u16; coding::WORDS], number: usize) -> u64
 
 // How many cells these words say.
 fn cells_in(w: [u16; coding::WORDS]) -> usize
-    ensures { (result ≡ countOf (decoded w).cells.size) × (result ≤ 24) }
+    ensures { (result ≡ count_of (decoded w).cells.size) × (result ≤ 24) }
 {
     let u = coding::decoded(w);
     let k = u.cells;
@@ -43,7 +43,7 @@ fn cells_in(w: [u16; coding::WORDS]) -> usize
 }
 
 pub fn count_read(w: [u16; coding::WORDS]) -> u64
-    ensures { result ≡ countRead w }
+    ensures { result ≡ count_read w }
 {
     if coding::is_unit(w) {
         return replies::told(0, cells_in(w) as u16);
@@ -53,7 +53,7 @@ pub fn count_read(w: [u16; coding::WORDS]) -> u64
 
 // A number that is read of the cell at this place, if the unit has such a cell.
 fn cell_read(w: [u16; coding::WORDS], index: usize, number: u16) -> u64
-    ensures { result ≡ cellRead w index number }
+    ensures { result ≡ cell_read w index number }
 {
     if coding::is_unit(w) {
         if index < cells_in(w) {
@@ -75,19 +75,19 @@ fn cell_in(w: [u16; coding::WORDS], index: usize) -> Cell
 }
 
 pub fn tag_read(w: [u16; coding::WORDS], index: usize) -> u64
-    ensures { result ≡ tagRead w index }
+    ensures { result ≡ tag_read w index }
 {
     cell_read(w, index, cell_in(w, index).tag)
 }
 
 pub fn word_read(w: [u16; coding::WORDS], index: usize) -> u64
-    ensures { result ≡ wordRead w index }
+    ensures { result ≡ word_read w index }
 {
     cell_read(w, index, cell_in(w, index).word)
 }
 
 pub fn counter_read(w: [u16; coding::WORDS]) -> u64
-    ensures { result ≡ counterRead w }
+    ensures { result ≡ counter_read w }
 {
     if coding::is_unit(w) {
         let u = coding::decoded(w);
@@ -98,7 +98,7 @@ pub fn counter_read(w: [u16; coding::WORDS]) -> u64
 
 // 0 nothing, 1 and 2 the SERVICE DATOs, 3 the second START read.
 pub fn wait_read(w: [u16; coding::WORDS]) -> u64
-    ensures { result ≡ waitRead w }
+    ensures { result ≡ wait_read w }
 {
     if coding::is_unit(w) {
         let u = coding::decoded(w);
@@ -111,7 +111,7 @@ pub fn wait_read(w: [u16; coding::WORDS]) -> u64
 
 // Where the page that a map register's word names begins, in a memory of this length: "as a part of the caller's memory, or an empty part".
 pub fn page_place(length: usize, word: u16) -> usize
-    ensures { result ≡ pagePlace length word }
+    ensures { result ≡ page_place length word }
 {
     let at = 512 * ((word as usize) % 512);
     if at + 512 <= length { at } else { NO_PAGE }

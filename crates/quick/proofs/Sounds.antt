@@ -23,20 +23,20 @@ use Rattle.rules.specs.declared.Outcome.{Outcome}
 use Rattle.rules.specs.declared.Job.{Job}
 use Rattle.rules.specs.declared.Ruling.{Ruling}
 use Rattle.rules.specs.Choice.{pick}
-use Rattle.rules.specs.Memory.{Memory, wordAt, evenOf}
-use Rattle.rules.specs.Unit.{cell_at, withFetch}
+use Rattle.rules.specs.Memory.{Memory, word_at, even_of}
+use Rattle.rules.specs.Unit.{cell_at, with_fetch}
 use Rattle.rules.specs.Registers.{place_of, part_of}
-use Rattle.rules.specs.Maps.{unpaged, page_of, physicalAt, publicBit, execZero, tagOf, cell_of, soughtIn, looked}
-use Rattle.rules.specs.Fetched.{isFetch, afterFetch, noted}
-use Rattle.rules.specs.Steps.{wellShaped, oddWord, judged, watches, dueWhen, dueOf, publicPage, forbidden}
+use Rattle.rules.specs.Maps.{unpaged, page_of, physical_at, public_bit, exec_zero, tag_of, cell_of, sought_in, looked}
+use Rattle.rules.specs.Fetched.{is_fetch, after_fetch, noted}
+use Rattle.rules.specs.Steps.{well_shaped, odd_word, judged, watches, due_when, due_of, public_page, forbidden}
 use Rattle.rules.specs.Program.{Prog, done, ask, run}
-use Rattle.rules.specs.Order.{outcome, sourceAt, readFrom, readAt, fetched, flagAfter, memoryEffect, stored_at, transferred, wordJudged, pagedReached, outerTarget, outerRuled, pagedFrom, afterWait, accessed}
-use Rattle.rules.specs.Calls.{mapsAfter, cellsAfter}
+use Rattle.rules.specs.Order.{outcome, source_at, read_from, read_at, fetched, flag_after, memory_effect, stored_at, transferred, word_judged, paged_reached, outer_target, outer_ruled, paged_from, after_wait, accessed}
+use Rattle.rules.specs.Calls.{maps_after, cells_after}
 use Rattle.rules.proofs.Laws.Choices.{both_true}
 use Rattle.rules.proofs.Laws.RunLaws.{run-done, run-ask}
 use Rattle.quick.specs.declared.Attempt.{Attempt}
-use Rattle.quick.specs.Usual.{calm, usual, fetchNoted, otherNoted, Quiet, Sound}
-use Rattle.quick.proofs.Noted.{IsCalm, is-calm, noted-fetch, noted_other, noted-um, noted-watches}
+use Rattle.quick.specs.Usual.{calm, usual, fetch_noted, other_noted, Quiet, Sound}
+use Rattle.quick.proofs.Noted.{IsCalm, is_calm, noted-fetch, noted_other, noted-um, noted-watches}
 
 abbrev job : Access → Core → Cells → Maps → Job
 job q c k r = record { q = q; core = c; maps = r; size = k.size }
@@ -49,16 +49,16 @@ none-owed a m p k left = record { runs = λ h r. absurd (clash h); quiet = λ h.
     clash h = let z : ◌≡◌ {A = ℕ} 0 1 = cc in omega arith
 
 -- The same steps owe the same.
-pub owed-by :
+pub owed_by :
     (a : Attempt) (m : Memory) (p p₁ : Maps → Prog) (k : Cells) → ((r : Maps) → p r ≡ p₁ r) → Sound a m p₁ k → Sound a m p k
-owed-by a m p p₁ k e s = record { runs = λ h r. ap (λ (x : Prog). run m r x k) (e r) ∙ s.runs h r; quiet = s.quiet }
+owed_by a m p p₁ k e s = record { runs = λ h r. ap (λ (x : Prog). run m r x k) (e r) ∙ s.runs h r; quiet = s.quiet }
 
 quiet-keep : Quiet Effect.Keep
-unfolding mapsAfter cellsAfter
+unfolding maps_after cells_after
 quiet-keep = record { maps = λ r. refl; cells = λ k. refl }
 
-quiet-memory : (p : Part) (at v : ℕ) → Quiet (memoryEffect p at v)
-unfolding mapsAfter cellsAfter memoryEffect
+quiet-memory : (p : Part) (at v : ℕ) → Quiet (memory_effect p at v)
+unfolding maps_after cells_after memory_effect
 quiet-memory Part.Whole at v = record { maps = λ r. refl; cells = λ k. refl }
 quiet-memory Part.Low at v = record { maps = λ r. refl; cells = λ k. refl }
 quiet-memory Part.High at v = record { maps = λ r. refl; cells = λ k. refl }
@@ -75,28 +75,28 @@ ended-owed a m p k o e quiet is =
 
 module _ (m : Memory) (q : Access) (at : ℕ) (a : Attempt) (k : Cells) where
   -- step 11 passed
-  pub fetch-owed :
-      (c d : Core) (v w : ℕ) → w ≡ wordAt m (evenOf at) → forbidden c (Entry.Mapped v) w ≡ false
-      → d ≡ withFetch c (afterFetch c.fetch w (publicBit v))
+  pub fetch_owed :
+      (c d : Core) (v w : ℕ) → w ≡ word_at m (even_of at) → forbidden c (Entry.Mapped v) w ≡ false
+      → d ≡ with_fetch c (after_fetch c.fetch w (public_bit v))
       → a ≡ record { done = true; outcome = record { answer = Answer.Done w at; core = d; effect = Effect.Keep } }
-      → Sound a m (λ r. readAt m (job q c k r) at Target.Memory (wordJudged (job q c k r) at Target.Memory (Entry.Mapped v))) k
-  unfolding sourceAt readFrom readAt wordJudged fetched flagAfter publicPage outcome pick
-  fetch-owed c d v w read allowed after is =
+      → Sound a m (λ r. read_at m (job q c k r) at Target.Memory (word_judged (job q c k r) at Target.Memory (Entry.Mapped v))) k
+  unfolding source_at read_from read_at word_judged fetched flag_after public_page outcome pick
+  fetch_owed c d v w read allowed after is =
       ended-owed a m _ k _ is quiet-keep (λ r. simp (sym read, allowed, sym after))
 
-  pub read-owed :
-      (c : Core) (w : ℕ) → ltb q.op 2 ≡ true → w ≡ wordAt m (evenOf at)
+  pub read_owed :
+      (c : Core) (w : ℕ) → ltb q.op 2 ≡ true → w ≡ word_at m (even_of at)
       → a ≡ record { done = true; outcome = record { answer = Answer.Done w at; core = c; effect = Effect.Keep } }
       → Sound a m (λ r. transferred m (job q c k r) at Target.Memory) k
-  unfolding transferred sourceAt readFrom readAt outcome pick
-  read-owed c w reads read is = ended-owed a m _ k _ is quiet-keep (λ r. simp (reads, sym read))
+  unfolding transferred source_at read_from read_at outcome pick
+  read_owed c w reads read is = ended-owed a m _ k _ is quiet-keep (λ r. simp (reads, sym read))
 
-  pub store-owed :
-      (c : Core) (e : Effect) → ltb q.op 2 ≡ false → e ≡ memoryEffect (part_of q.op at) at q.datum
+  pub store_owed :
+      (c : Core) (e : Effect) → ltb q.op 2 ≡ false → e ≡ memory_effect (part_of q.op at) at q.datum
       → a ≡ record { done = true; outcome = record { answer = Answer.Done 0 at; core = c; effect = e } }
       → Sound a m (λ r. transferred m (job q c k r) at Target.Memory) k
   unfolding transferred stored_at outcome pick
-  store-owed c e stores effect is =
+  store_owed c e stores effect is =
       ended-owed a m _ k _ is (rw effect (quiet-memory (part_of q.op at) at q.datum)) (λ r. simp (stores, sym effect))
 
   module _ (c : Core) (v : ℕ) (below : at < length m) (calms : calm c ≡ true) where
@@ -105,36 +105,36 @@ module _ (m : Memory) (q : Access) (at : ℕ) (a : Attempt) (k : Cells) where
     in_memory = simp (lt-ltb at (length m) below)
 
     pub reached-fetch :
-        (d : Core) → isFetch q ≡ true → d ≡ fetchNoted c q
-        → Sound a m (λ r. readAt m (job q d k r) at Target.Memory (wordJudged (job q d k r) at Target.Memory (Entry.Mapped v))) k
-        → Sound a m (λ r. outerTarget m (job q (noted c q) k r) at (Entry.Mapped v) (place_of k.size (length m) at)) k
-    unfolding outerTarget pagedReached pick
+        (d : Core) → is_fetch q ≡ true → d ≡ fetch_noted c q
+        → Sound a m (λ r. read_at m (job q d k r) at Target.Memory (word_judged (job q d k r) at Target.Memory (Entry.Mapped v))) k
+        → Sound a m (λ r. outer_target m (job q (noted c q) k r) at (Entry.Mapped v) (place_of k.size (length m) at)) k
+    unfolding outer_target paged_reached pick
     reached-fetch d f after s =
-        owed-by a m _ _ k (λ r. simp (in_memory, f, noted-fetch c q (is-calm c calms) f, sym after)) s
+        owed_by a m _ _ k (λ r. simp (in_memory, f, noted-fetch c q (is_calm c calms) f, sym after)) s
 
     pub reached-other :
-        (d : Core) → isFetch q ≡ false → d ≡ otherNoted c q → Sound a m (λ r. transferred m (job q d k r) at Target.Memory) k
-        → Sound a m (λ r. outerTarget m (job q (noted c q) k r) at (Entry.Mapped v) (place_of k.size (length m) at)) k
-    unfolding outerTarget pagedReached pick
+        (d : Core) → is_fetch q ≡ false → d ≡ other_noted c q → Sound a m (λ r. transferred m (job q d k r) at Target.Memory) k
+        → Sound a m (λ r. outer_target m (job q (noted c q) k r) at (Entry.Mapped v) (place_of k.size (length m) at)) k
+    unfolding outer_target paged_reached pick
     reached-other d f after s =
-        owed-by a m _ _ k (λ r. simp (in_memory, f, noted_other c q (is-calm c calms) f, sym after)) s
+        owed_by a m _ _ k (λ r. simp (in_memory, f, noted_other c q (is_calm c calms) f, sym after)) s
 
 -- a look-up that a cell answers
 hit :
-    (m : Memory) (user : Bool) (p : ℕ) (k : Cells) (i v : ℕ) → execZero user p ≡ false → cell_of k (tagOf user p) ≡ Found.At i
+    (m : Memory) (user : Bool) (p : ℕ) (k : Cells) (i v : ℕ) → exec_zero user p ≡ false → cell_of k (tag_of user p) ≡ Found.At i
     → v ≡ (cell_at k i).word → (r : Maps) → looked m r user p k ≡ record { entry = Entry.Mapped v; cells = k }
-unfolding looked soughtIn pick
+unfolding looked sought_in pick
 hit m user p k i v mapped found word r = simp (mapped, found, sym word)
 
 module _ (m : Memory) (q : Access) (a : Attempt) (c : Core) where
-  pub held-owed :
+  pub held_owed :
       (v page at : ℕ) → calm c ≡ true → judged q.op (watches c.fetch q) (Entry.Mapped v) ≡ Ruling.Granted page
-      → at ≡ physicalAt page q.addr → (k : Cells)
-      → Sound a m (λ r. outerTarget m (job q (noted c q) k r) at (Entry.Mapped v) (place_of k.size (length m) at)) k
-      → Sound a m (λ r. outerRuled m (job q (noted c q) k r) (Entry.Mapped v) (judged q.op (watches (noted c q).fetch q) (Entry.Mapped v))) k
-  unfolding outerRuled
-  held-owed v page at calms granted place k s =
-      owed-by a m _ _ k (λ r. simp (noted-watches c q (is-calm c calms), granted, sym place)) s
+      → at ≡ physical_at page q.addr → (k : Cells)
+      → Sound a m (λ r. outer_target m (job q (noted c q) k r) at (Entry.Mapped v) (place_of k.size (length m) at)) k
+      → Sound a m (λ r. outer_ruled m (job q (noted c q) k r) (Entry.Mapped v) (judged q.op (watches (noted c q).fetch q) (Entry.Mapped v))) k
+  unfolding outer_ruled
+  held_owed v page at calms granted place k s =
+      owed_by a m _ _ k (λ r. simp (noted-watches c q (is_calm c calms), granted, sym place)) s
 
   module _ (yes : usual (length m) c q ≡ true) where
     usual-calm : calm c ≡ true
@@ -145,31 +145,31 @@ module _ (m : Memory) (q : Access) (a : Attempt) (c : Core) where
         (k : Cells) (r : Maps) →
         accessed m k.size c r q
         ≡ ask c.ktcs.um (page_of q.addr)
-        (λ e. outerRuled m (job q (noted c q) k r) e (judged q.op (watches (noted c q).fetch q) e))
-    unfolding usual accessed afterWait pagedFrom dueOf dueWhen unpaged pick
+        (λ e. outer_ruled m (job q (noted c q) k r) e (judged q.op (watches (noted c q).fetch q) e))
+    unfolding usual accessed after_wait paged_from due_of due_when unpaged pick
     usual-steps k r =
-        let h = is-calm c usual-calm in
-        let s = both_true (wellShaped (length m) q) (not (oddWord q.width q.addr)) (both_true (calm c) _ yes).1 in
-        let shaped : wellShaped (length m) q ≡ true = s.0 in
-        let even : oddWord q.width q.addr ≡ false = not-true _ s.1 in
+        let h = is_calm c usual-calm in
+        let s = both_true (well_shaped (length m) q) (not (odd_word q.width q.addr)) (both_true (calm c) _ yes).1 in
+        let shaped : well_shaped (length m) q ≡ true = s.0 in
+        let even : odd_word q.width q.addr ≡ false = not_true _ s.1 in
         simp (shaped, h.wait, h.fcn, even, noted-um c q h)
       where
-        not-true : (b : Bool) → not b ≡ true → b ≡ false
-        not-true true e = cc
-        not-true false e = refl
+        not_true : (b : Bool) → not b ≡ true → b ≡ false
+        not_true true e = cc
+        not_true false e = refl
 
-    pub attempt-owed :
-        (k : Cells) (i v : ℕ) → execZero c.ktcs.um (page_of q.addr) ≡ false
-        → cell_of k (tagOf c.ktcs.um (page_of q.addr)) ≡ Found.At i → v ≡ (cell_at k i).word
-        → (calm c ≡ true → (k : Cells) → Sound a m (λ r. outerRuled m (job q (noted c q) k r) (Entry.Mapped v) (judged q.op (watches (noted c q).fetch q) (Entry.Mapped v))) k)
+    pub attempt_owed :
+        (k : Cells) (i v : ℕ) → exec_zero c.ktcs.um (page_of q.addr) ≡ false
+        → cell_of k (tag_of c.ktcs.um (page_of q.addr)) ≡ Found.At i → v ≡ (cell_at k i).word
+        → (calm c ≡ true → (k : Cells) → Sound a m (λ r. outer_ruled m (job q (noted c q) k r) (Entry.Mapped v) (judged q.op (watches (noted c q).fetch q) (Entry.Mapped v))) k)
         → Sound a m (λ r. accessed m k.size c r q) k
-    attempt-owed k i v mapped found word s =
+    attempt_owed k i v mapped found word s =
         let t = s usual-calm k in
         record {
           runs =
               λ h r.
               ap (λ (x : Prog). run m r x k) (usual-steps k r) ∙ run-ask m r _ _ _ k
-              ∙ ap (λ (l : Looked). run m r (outerRuled m (job q (noted c q) k r) l.entry (judged q.op (watches (noted c q).fetch q) l.entry)) l.cells) (hit m c.ktcs.um (page_of q.addr) k i v mapped found word r)
+              ∙ ap (λ (l : Looked). run m r (outer_ruled m (job q (noted c q) k r) l.entry (judged q.op (watches (noted c q).fetch q) l.entry)) l.cells) (hit m c.ktcs.um (page_of q.addr) k i v mapped found word r)
               ∙ t.runs h r;
           quiet = t.quiet;
         }

@@ -16,19 +16,19 @@ use Rattle.rules.specs.declared.Ran.{Ran}
 use Rattle.rules.specs.Choice.{pick}
 use Rattle.rules.specs.Memory.{Memory}
 use Rattle.rules.specs.Registers.{ktic, place_of}
-use Rattle.rules.specs.Status.{flagsClear, withStates}
-use Rattle.rules.specs.Fetched.{kind_of, isDato, oneMore, noted}
-use Rattle.rules.specs.Steps.{wellShaped, oddWord, judged, watches}
+use Rattle.rules.specs.Status.{flags_clear, with_states}
+use Rattle.rules.specs.Fetched.{kind_of, is_dato, one_more, noted}
+use Rattle.rules.specs.Steps.{well_shaped, odd_word, judged, watches}
 use Rattle.rules.specs.Program.{Prog, run}
-use Rattle.rules.specs.Order.{readAt, wordJudged, outerTarget, outerRuled, accessed}
-use Rattle.rules.specs.Calls.{mapsAfter, cellsAfter}
+use Rattle.rules.specs.Order.{read_at, word_judged, outer_target, outer_ruled, accessed}
+use Rattle.rules.specs.Calls.{maps_after, cells_after}
 use Rattle.quick.specs.declared.Attempt.{Attempt}
 
-unfoldable pub isIdle : Wait → Bool
-isIdle Wait.Nothing = true
-isIdle Wait.StatusDue = false
-isIdle Wait.ProgramCounterDue = false
-isIdle Wait.SecondReadDue = false
+unfoldable pub is_idle : Wait → Bool
+is_idle Wait.Nothing = true
+is_idle Wait.StatusDue = false
+is_idle Wait.ProgramCounterDue = false
+is_idle Wait.SecondReadDue = false
 
 unfoldable pub is_plain : Kind → Bool
 is_plain Kind.Jsr = false
@@ -41,34 +41,34 @@ is_plain Kind.Other = true
 
 -- of the unit alone
 unfoldable pub calm : Core → Bool
-calm c = isIdle c.wait && eqb c.ktcs.fcn 2 && flagsClear c.ktcs && is_plain (kind_of c.fetch.newer)
+calm c = is_idle c.wait && eqb c.ktcs.fcn 2 && flags_clear c.ktcs && is_plain (kind_of c.fetch.newer)
 
 -- with the access: steps 1 and 5 pass
 unfoldable pub usual : ℕ → Core → Access → Bool
-usual len c q = calm c && (wellShaped len q && not (oddWord q.width q.addr))
+usual len c q = calm c && (well_shaped len q && not (odd_word q.width q.addr))
 
 -- step 4 of a usual fetch, and of another usual access
-unfoldable pub fetchNoted : Core → Access → Core
-fetchNoted c q =
-    record { ktcs = withStates c.ktcs false false; kept = set c.kept ktic q.addr; wait = c.wait; fetch = c.fetch }
+unfoldable pub fetch_noted : Core → Access → Core
+fetch_noted c q =
+    record { ktcs = with_states c.ktcs false false; kept = set c.kept ktic q.addr; wait = c.wait; fetch = c.fetch }
 
-unfoldable pub otherFetch : Fetch → Access → Fetch
-otherFetch f q =
-    record { newer = f.newer; older = f.older; datos = pick (isDato q) (oneMore f.datos) f.datos; accesses = oneMore f.accesses; public = f.public }
+unfoldable pub other_fetch : Fetch → Access → Fetch
+other_fetch f q =
+    record { newer = f.newer; older = f.older; datos = pick (is_dato q) (one_more f.datos) f.datos; accesses = one_more f.accesses; public = f.public }
 
-unfoldable pub otherNoted : Core → Access → Core
-otherNoted c q =
+unfoldable pub other_noted : Core → Access → Core
+other_noted c q =
     record {
-      ktcs = withStates c.ktcs (c.ktcs.ss || eqb q.state 1) (c.ktcs.ds || eqb q.state 2);
+      ktcs = with_states c.ktcs (c.ktcs.ss || eqb q.state 1) (c.ktcs.ds || eqb q.state 2);
       kept = c.kept;
       wait = c.wait;
-      fetch = otherFetch c.fetch q;
+      fetch = other_fetch c.fetch q;
     }
 
 -- an effect that leaves the map registers and the cells
 pub record Quiet (e : Effect) : Type 0 where
-  pub maps : (r : Maps) → mapsAfter e r ≡ r
-  pub cells : (k : Cells) → cellsAfter e k ≡ k
+  pub maps : (r : Maps) → maps_after e r ≡ r
+  pub cells : (k : Cells) → cells_after e k ≡ k
 
 -- What an attempt owes where it says that it is done: that the steps run so, with any map registers, and that only the core and memory change.
 pub record Sound (a : Attempt) (m : Memory) (p : Maps → Prog) (k : Cells) : Type 0 where

@@ -5,10 +5,10 @@ ghost use Rattle.rules.specs.declared.Maps.{Maps};
 ghost use Rattle.rules.specs.declared.Target.{Target};
 ghost use Rattle.rules.specs.Choice.{pick};
 ghost use Rattle.rules.specs.Registers.{place_of};
-ghost use Rattle.rules.specs.Fetched.{noted, isFetch};
+ghost use Rattle.rules.specs.Fetched.{noted, is_fetch};
 ghost use Rattle.rules.specs.Steps.{judged, watches};
-ghost use Rattle.rules.specs.Order.{readAt, wordJudged, transferred, outerTarget, outerRuled, accessed};
-ghost use Rattle.quick.specs.Usual.{isIdle, is_plain, calm, usual, fetchNoted, otherFetch, otherNoted, Sound};
+ghost use Rattle.rules.specs.Order.{read_at, word_judged, transferred, outer_target, outer_ruled, accessed};
+ghost use Rattle.quick.specs.Usual.{is_idle, is_plain, calm, usual, fetch_noted, other_fetch, other_noted, Sound};
 
 use rules::{
     Access, Answer, Cells, Core, Effect, Entry, Fetch, Found, Kind, Outcome, Ruling, Wait,
@@ -52,7 +52,7 @@ fn ended(core: Core, word: u16, at: usize, effect: Effect) -> Attempt
 // Whether the access is usual -----------------------------------------------------------------------------------------
 
 fn is_idle(w: Wait) -> bool
-    ensures { result ≡ isIdle w }
+    ensures { result ≡ is_idle w }
 {
     match w {
         Wait::Nothing => true,
@@ -95,7 +95,7 @@ pub fn usual(len: usize, c: Core, q: Access) -> bool
 // Step 4 --------------------------------------------------------------------------------------------------------------
 
 fn fetch_noted(c: Core, q: Access) -> Core
-    ensures { result ≡ fetchNoted c q }
+    ensures { result ≡ fetch_noted c q }
 {
     let kept = c.kept;
     let stored = registers::kept_stored(kept, registers::KTIC, q.addr);
@@ -107,7 +107,7 @@ fn fetch_noted(c: Core, q: Access) -> Core
 }
 
 fn other_fetch(f: Fetch, q: Access) -> Fetch
-    ensures { result ≡ otherFetch f q }
+    ensures { result ≡ other_fetch f q }
 {
     Fetch {
         newer: f.newer,
@@ -119,7 +119,7 @@ fn other_fetch(f: Fetch, q: Access) -> Fetch
 }
 
 fn other_noted(c: Core, q: Access) -> Core
-    ensures { result ≡ otherNoted c q }
+    ensures { result ≡ other_noted c q }
 {
     let f = c.fetch;
     let g = other_fetch(f, q);
@@ -138,7 +138,7 @@ fn other_noted(c: Core, q: Access) -> Core
 
 // A fetch of a word that is not forbidden; c is the core after step 4, v the page's map word.
 fn fetch_ended(m: &[u8], c: Core, q: Access, v: u16, at: usize) -> Attempt
-    ensures { (k : Cells) → Sound result m.now (λ r. readAt m.now (record { q = q; core = c; maps = r; size = k.size }) at Target.Memory (wordJudged (record { q = q; core = c; maps = r; size = k.size }) at Target.Memory (Entry.Mapped v))) k }
+    ensures { (k : Cells) → Sound result m.now (λ r. read_at m.now (record { q = q; core = c; maps = r; size = k.size }) at Target.Memory (word_judged (record { q = q; core = c; maps = r; size = k.size }) at Target.Memory (Entry.Mapped v))) k }
 {
     let w = memory::word_at(m, memory::even_of(at));
     let e = Entry::Mapped(v);
@@ -165,7 +165,7 @@ fn other_ended(m: &[u8], c: Core, q: Access, at: usize) -> Attempt
 
 // Step 10, and the transfer; c is the core before step 4.
 fn reached(m: &[u8], c: Core, q: Access, v: u16, at: usize) -> Attempt
-    ensures { calm c ≡ true → (k : Cells) → Sound result m.now (λ r. outerTarget m.now (record { q = q; core = noted c q; maps = r; size = k.size }) at (Entry.Mapped v) (place_of k.size (length m.now) at)) k }
+    ensures { calm c ≡ true → (k : Cells) → Sound result m.now (λ r. outer_target m.now (record { q = q; core = noted c q; maps = r; size = k.size }) at (Entry.Mapped v) (place_of k.size (length m.now) at)) k }
 {
     if at < m.len() {
         if fetched::is_fetch(q) {
@@ -178,7 +178,7 @@ fn reached(m: &[u8], c: Core, q: Access, v: u16, at: usize) -> Attempt
 
 // Steps 7 to 9, by the word that the page's cell holds.
 fn held(m: &[u8], c: Core, q: Access, v: u16) -> Attempt
-    ensures { calm c ≡ true → (k : Cells) → Sound result m.now (λ r. outerRuled m.now (record { q = q; core = noted c q; maps = r; size = k.size }) (Entry.Mapped v) (judged q.op (watches (noted c q).fetch q) (Entry.Mapped v))) k }
+    ensures { calm c ≡ true → (k : Cells) → Sound result m.now (λ r. outer_ruled m.now (record { q = q; core = noted c q; maps = r; size = k.size }) (Entry.Mapped v) (judged q.op (watches (noted c q).fetch q) (Entry.Mapped v))) k }
 {
     let f = c.fetch;
     match steps::keys_of(q.op, steps::watches(f, q), v) {

@@ -1,7 +1,7 @@
 // The register table: which address is which register, the parts of a word that a store covers, and what is read of the core and the map
 // registers (01, "Registers").
 ghost use Rattle.std.specs.Prelude.{◌≡◌, get_or, set, take};
-ghost use Rattle.rules.specs.Registers.{found_from, registerOf, place_in, place_of, part_of, merged, operatingWord};
+ghost use Rattle.rules.specs.Registers.{found_from, register_of, place_in, place_of, part_of, merged, operating_word};
 
 use rules::{Associative, Core, Found, Maps, Operating, Part, Place, Register, Size, Target};
 
@@ -48,7 +48,7 @@ fn found_before(list: &[usize], end: usize, x: usize) -> Found
 
 // The register with this number, counted from KTMR in the order of their addresses.
 pub fn register_of(n: usize) -> Register
-    ensures { result ≡ registerOf n }
+    ensures { result ≡ register_of n }
 {
     if n == 0 {
         return Register::Associative(Associative::Ktmr);
@@ -137,7 +137,7 @@ pub fn kept_stored(kept: [u16; rules::KEPT], i: usize, v: u16) -> [u16; rules::K
 
 // What a read of a register gives that the core or the map registers answer for.
 pub fn operating_word(c: Core, r: Maps, g: Operating) -> u16
-    ensures { result ≡ operatingWord c r g }
+    ensures { result ≡ operating_word c r g }
 {
     match g {
         Operating::Ktcs => status::packed(c.ktcs),

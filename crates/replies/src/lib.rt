@@ -1,13 +1,13 @@
 // A reply of the library as one number: its data, its physical address and its answer.
 ghost use Rattle.std.specs.Prelude.{◌≡◌, ◌<◌};
-ghost use Rattle.rules.specs.Answers.{shown, makingShown};
-ghost use Rattle.replies.specs.Replies.{physicalBits, replyWord, told, noUnit, misshapen};
+ghost use Rattle.rules.specs.Answers.{shown, making_shown};
+ghost use Rattle.replies.specs.Replies.{physical_bits, reply_word, told, no_unit, misshapen};
 
 use rules::{Answer, Making, Physical, Returned};
 
 // Bits 16 to 34. The bound lets the sum of the parts fit.
 fn physical_bits(p: Physical) -> u64
-    ensures { (result ≡ physicalBits p) × (result < 0x800000000) }
+    ensures { (result ≡ physical_bits p) × (result < 0x800000000) }
 {
     match p {
         Physical::At(at) => (at % 0x40000) as u64 * 0x10000 + 0x400000000,
@@ -16,7 +16,7 @@ fn physical_bits(p: Physical) -> u64
 }
 
 pub fn reply_word(s: Returned) -> u64
-    ensures { result ≡ replyWord s }
+    ensures { result ≡ reply_word s }
 {
     let p = s.physical;
     s.datum as u64 + physical_bits(p) + (s.number % 256) as u64 * 0x10000000000
@@ -34,7 +34,7 @@ pub fn told(number: u16, datum: u16) -> u64
 }
 
 pub fn no_unit() -> u64
-    ensures { result ≡ noUnit }
+    ensures { result ≡ no_unit }
 {
     told(70, 0)
 }
@@ -47,7 +47,7 @@ pub fn misshapen() -> u64
 
 // What the making of a unit gives.
 pub fn making_replied(how: Making) -> u64
-    ensures { result ≡ replyWord (makingShown how) }
+    ensures { result ≡ reply_word (making_shown how) }
 {
     match how {
         Making::With(_) => told(0, 0),
@@ -57,7 +57,7 @@ pub fn making_replied(how: Making) -> u64
 
 // An answer of the rules.
 pub fn replied(a: Answer) -> u64
-    ensures { result ≡ replyWord (shown a) }
+    ensures { result ≡ reply_word (shown a) }
 {
     reply_word(answers::shown(a))
 }

@@ -11,22 +11,22 @@ abbrev pub newline : List ℕ
 newline = 10 ∷ []
 
 -- "physical (six digits each, or `-`)"
-unfoldable pub addressText : Printed → List ℕ
-addressText (At p) = octal6 p
-addressText Dash = 45 ∷ []
+unfoldable pub address_text : Printed → List ℕ
+address_text (At p) = octal6 p
+address_text Dash = 45 ∷ []
 
 -- "Each call prints its decimal number, answer, data, physical (six digits each, or `-`) and KTCS."
 unfoldable pub row_of : ℕ → ℕ → ℕ → Printed → ℕ → List ℕ
 row_of call answer datum physical ktcs =
-    decimal call ++ tab ++ decimal answer ++ tab ++ octal6 datum ++ tab ++ addressText physical ++ tab ++ octal6 ktcs ++ newline
+    decimal call ++ tab ++ decimal answer ++ tab ++ octal6 datum ++ tab ++ address_text physical ++ tab ++ octal6 ktcs ++ newline
 
 -- "A bad line prints `BAD`, tab, its decimal line number."
-unfoldable pub badOf : ℕ → List ℕ
-badOf number = 66 ∷ 65 ∷ 68 ∷ tab ++ decimal number ++ newline
+unfoldable pub bad_of : ℕ → List ℕ
+bad_of number = 66 ∷ 65 ∷ 68 ∷ tab ++ decimal number ++ newline
 
 -- CALL ANS DATA PHYS KTCS, with tabs between
-unfoldable pub headerOf : List ℕ
-headerOf =
+unfoldable pub header_of : List ℕ
+header_of =
     67 ∷ 65 ∷ 76 ∷ 76 ∷ tab
     ++ 65 ∷ 78 ∷ 83 ∷ tab
     ++ 68 ∷ 65 ∷ 84 ∷ 65 ∷ tab

@@ -7,8 +7,8 @@ abbrev pub shown : Text → List ℕ
 shown t = drop t.from t.bytes
 
 -- the text of a line that prints nothing
-abbrev pub noText : Text
-noText = record { bytes = replicate 64 0; from = 64 }
+abbrev pub no_text : Text
+no_text = record { bytes = replicate 64 0; from = 64 }
 
 -- n bytes fit before what the text holds
 pub record Room (t : Text) (n : ℕ) : Type 0 where

@@ -1,8 +1,8 @@
 // The lines that the bench program prints. Each is put together from its end, since a number's last digit is found first.
 ghost use Rattle.std.specs.Prelude.{◌≡◌, [], ◌∷◌, ◌++◌, ◌≤◌, drop};
 ghost use Rattle.rowtext.specs.Digits.{octal6, decimal};
-ghost use Rattle.rowtext.specs.Row.{addressText, row_of, badOf, headerOf};
-ghost use Rattle.rowtext.specs.Written.{noText, Room, Ahead};
+ghost use Rattle.rowtext.specs.Row.{address_text, row_of, bad_of, header_of};
+ghost use Rattle.rowtext.specs.Written.{no_text, Room, Ahead};
 
 // A line of the output: the bytes from `from` on.
 #[derive(Drop)]
@@ -24,7 +24,7 @@ const NEWLINE: u8 = 10;
 
 // The text of a line that prints nothing.
 pub fn empty() -> Text
-    ensures { (result ≡ noText) × Room result 64 }
+    ensures { (result ≡ no_text) × Room result 64 }
 {
     Text {
         bytes: [0u8; 64],
@@ -77,7 +77,7 @@ fn decimal_ahead(t: Text, n: u64, end: u8) -> Text
 // "physical (six digits each, or `-`)"
 fn place_ahead(t: Text, physical: Printed, end: u8) -> Text
     requires { Room t 7 }
-    ensures { Ahead t result (addressText physical ++ end ∷ []) 7 }
+    ensures { Ahead t result (address_text physical ++ end ∷ []) 7 }
 {
     match physical {
         Printed::At(address) => octal_ahead(t, address, end),
@@ -98,7 +98,7 @@ pub fn row(call: u64, answer: u16, datum: u16, physical: Printed, ktcs: u16) -> 
 
 // "A bad line prints `BAD`, tab, its decimal line number."
 pub fn bad_line(number: u64) -> Text
-    ensures { (drop result.from result.bytes ≡ badOf number) × (result.from ≤ 64) }
+    ensures { (drop result.from result.bytes ≡ bad_of number) × (result.from ≤ 64) }
 {
     let numbered = ahead(decimal_ahead(empty(), number, NEWLINE), TAB);
     ahead(ahead(ahead(numbered, b'D'), b'A'), b'B')
@@ -106,7 +106,7 @@ pub fn bad_line(number: u64) -> Text
 
 // The names over the columns.
 pub fn header() -> [u8; 24]
-    ensures { result ≡ headerOf }
+    ensures { result ≡ header_of }
 {
     *b"CALL\tANS\tDATA\tPHYS\tKTCS\n"
 }

@@ -10,17 +10,17 @@ use lib.ListN.{length, get_or, replicate}
 use Rattle.rules.specs.Types.{Wait, Ktcs, Fetch, Core, Maps, Cell, Size, Making, Cells, Unit, Access, Call, Found, Associative, Target, Place, Part, Walk, Entry, Looked, Due, Fault, Answer, Physical, Effect, Job}
 use Rattle.rules.specs.Choice.{pick}
 use Rattle.rules.specs.Memory.{Memory}
-use Rattle.rules.specs.Unit.{countOf, size_of, room, there, emptyCell, cell_at, clearFetch}
-use Rattle.rules.specs.Status.{packed, flagsClear}
+use Rattle.rules.specs.Unit.{count_of, size_of, room, there, empty_cell, cell_at, clear_fetch}
+use Rattle.rules.specs.Status.{packed, flags_clear}
 use Rattle.rules.specs.Registers.{ktic, ktad, ktdt, place_of, merged, peeked}
-use Rattle.rules.specs.Maps.{unpaged, unpagedAt, page_of, physicalAt, residentBit, publicBit, writeBit, low9, execZero, execZeroEntry, walk_of, entry_of, tagOf, cell_of, filled, looked, forgotten}
-use Rattle.rules.specs.Fetched.{isFetch, isDato, normal, noted}
-use Rattle.rules.specs.Steps.{wellShaped, dueOf, oddWord, watches, forbidden}
-use Rattle.rules.specs.Sequences.{violated, timedOut, trapTwice, vectorListed, idle}
-use Rattle.rules.specs.Order.{wordRead, windowAddr}
-use Rattle.rules.specs.Calls.{After, cellsAfter, call_of, fresh}
-use Rattle.rules.specs.Answers.{shown, makingShown}
-use Rattle.rules.specs.Runs.{Turn, unitAfter, seenAlong, Station, stationAfter, plain_of, plainAlong, History, noneInUse, isOutdated, meets, historyOf}
+use Rattle.rules.specs.Maps.{unpaged, unpaged_at, page_of, physical_at, resident_bit, public_bit, write_bit, low9, exec_zero, exec_zero_entry, walk_of, entry_of, tag_of, cell_of, filled, looked, forgotten}
+use Rattle.rules.specs.Fetched.{is_fetch, is_dato, normal, noted}
+use Rattle.rules.specs.Steps.{well_shaped, due_of, odd_word, watches, forbidden}
+use Rattle.rules.specs.Sequences.{violated, timed_out, trap_twice, vector_listed, idle}
+use Rattle.rules.specs.Order.{word_read, window_addr}
+use Rattle.rules.specs.Calls.{After, cells_after, call_of, fresh}
+use Rattle.rules.specs.Answers.{shown, making_shown}
+use Rattle.rules.specs.Runs.{Turn, unit_after, seen_along, Station, station_after, plain_of, plain_along, History, none_in_use, is_outdated, meets, history_of}
 
 -- Demand 1: an access under way ------------------------------------------------------------------------------------------
 
@@ -34,33 +34,33 @@ outer m u q = looked m u.maps (job u q).core.ktcs.um (page_of q.addr) u.cells
 
 -- step 6 again, for the page that a window goes on to: a user's, by the cells that the first look_up left
 abbrev pub inner : Memory → Unit → Access → Looked
-inner m u q = looked m u.maps true (page_of (windowAddr (job u q))) (outer m u q).cells
+inner m u q = looked m u.maps true (page_of (window_addr (job u q))) (outer m u q).cells
 
-abbrev pub outerTag : Unit → Access → ℕ
-outerTag u q = tagOf (job u q).core.ktcs.um (page_of q.addr)
+abbrev pub outer_tag : Unit → Access → ℕ
+outer_tag u q = tag_of (job u q).core.ktcs.um (page_of q.addr)
 
-abbrev pub innerTag : Unit → Access → ℕ
-innerTag u q = tagOf true (page_of (windowAddr (job u q)))
+abbrev pub inner_tag : Unit → Access → ℕ
+inner_tag u q = tag_of true (page_of (window_addr (job u q)))
 
 -- the physical page that an entry names; a walk that ran off memory names none, and no test asks further
-abbrev pub pageNamed : Entry → ℕ
-pageNamed Entry.OffMap = 0
-pageNamed (Entry.ExecZero page) = page
-pageNamed (Entry.Mapped w) = low9 w
+abbrev pub page_named : Entry → ℕ
+page_named Entry.OffMap = 0
+page_named (Entry.ExecZero page) = page
+page_named (Entry.Mapped w) = low9 w
 
 -- the physical addresses of the two, and what lies there
-abbrev pub outerPhysical : Memory → Unit → Access → ℕ
-outerPhysical m u q = physicalAt (pageNamed (outer m u q).entry) q.addr
+abbrev pub outer_physical : Memory → Unit → Access → ℕ
+outer_physical m u q = physical_at (page_named (outer m u q).entry) q.addr
 
-abbrev pub innerPhysical : Memory → Unit → Access → ℕ
-innerPhysical m u q = physicalAt (pageNamed (inner m u q).entry) (windowAddr (job u q))
+abbrev pub inner_physical : Memory → Unit → Access → ℕ
+inner_physical m u q = physical_at (page_named (inner m u q).entry) (window_addr (job u q))
 
-abbrev pub outerPlace : Memory → Unit → Access → Place
-outerPlace m u q = place_of u.cells.size (length m) (outerPhysical m u q)
+abbrev pub outer_place : Memory → Unit → Access → Place
+outer_place m u q = place_of u.cells.size (length m) (outer_physical m u q)
 
 -- the word that a paged fetch reads at its target
-abbrev pub wordFetched : Memory → Unit → Access → Target → ℕ
-wordFetched m u q t = wordRead m (job u q) (outer m u q).cells (outerPhysical m u q) t
+abbrev pub word_fetched : Memory → Unit → Access → Target → ℕ
+word_fetched m u q t = word_read m (job u q) (outer m u q).cells (outer_physical m u q) t
 
 -- Demand 1: the answer, by the tests of 01's steps in their order --------------------------------------------------------
 
@@ -77,84 +77,84 @@ abbrev pub first_of : List Test → Answer → Answer
 first_of [] a = a
 first_of (t ∷ ts) a = pick t.refuses t.answer (first_of ts a)
 
-abbrev pub allPass : List Test → Bool
-allPass [] = true
-allPass (t ∷ ts) = not t.refuses && allPass ts
+abbrev pub all_pass : List Test → Bool
+all_pass [] = true
+all_pass (t ∷ ts) = not t.refuses && all_pass ts
 
 -- "6. Walk (9).", where "10 takes 9's place" (T-01), "7. Residency (5). 8. Write key for operations 1-3 (6). 9. Privacy (7).", the last of an
 -- access that is watched: "not a fetch, flag set"
-abbrev pub entryTests : ℕ → Bool → Entry → List Test
-entryTests op watched Entry.OffMap = test true (Answer.Fault Fault.NoMapWord) ∷ []
-entryTests op watched (Entry.ExecZero page) = []
-entryTests op watched (Entry.Mapped w) =
-    test (not (residentBit w)) (Answer.Fault Fault.NotResident)
-    ∷ test (not (eqb op 0) && not (writeBit w)) (Answer.Fault Fault.NotWritable)
-    ∷ test (watched && not (publicBit w)) (Answer.Fault Fault.NotPublic) ∷ []
+abbrev pub entry_tests : ℕ → Bool → Entry → List Test
+entry_tests op watched Entry.OffMap = test true (Answer.Fault Fault.NoMapWord) ∷ []
+entry_tests op watched (Entry.ExecZero page) = []
+entry_tests op watched (Entry.Mapped w) =
+    test (not (resident_bit w)) (Answer.Fault Fault.NotResident)
+    ∷ test (not (eqb op 0) && not (write_bit w)) (Answer.Fault Fault.NotWritable)
+    ∷ test (watched && not (public_bit w)) (Answer.Fault Fault.NotPublic) ∷ []
 
 -- a place that is no target; the window is none where it is shut: "Unpaged, by fetch, or window on window"
-abbrev pub noTarget : Bool → Place → Bool
-noTarget shut (Place.There t) = false
-noTarget shut Place.Window = shut
-noTarget shut Place.Nowhere = true
+abbrev pub no_target : Bool → Place → Bool
+no_target shut (Place.There t) = false
+no_target shut Place.Window = shut
+no_target shut Place.Nowhere = true
 
-abbrev pub isWindow : Place → Bool
-isWindow (Place.There t) = false
-isWindow Place.Window = true
-isWindow Place.Nowhere = false
+abbrev pub is_window : Place → Bool
+is_window (Place.There t) = false
+is_window Place.Window = true
+is_window Place.Nowhere = false
 
 -- "3. Unpaged odd word (3)." and step 10
-abbrev pub unpagedTests : Memory → Unit → Access → List Test
-unpagedTests m u q =
-    test (oddWord q.width q.addr) Answer.UnpagedOdd
-    ∷ test (noTarget true (place_of u.cells.size (length m) (unpagedAt q.addr))) (Answer.Fault Fault.NoTarget) ∷ []
+abbrev pub unpaged_tests : Memory → Unit → Access → List Test
+unpaged_tests m u q =
+    test (odd_word q.width q.addr) Answer.UnpagedOdd
+    ∷ test (no_target true (place_of u.cells.size (length m) (unpaged_at q.addr))) (Answer.Fault Fault.NoTarget) ∷ []
 
 -- "11. For a fetch, the word (8).": the word of a target that is there
-abbrev pub wordTests : Memory → Unit → Access → Place → List Test
-wordTests m u q (Place.There t) =
-    test (isFetch q && forbidden (job u q).core (outer m u q).entry (wordFetched m u q t))
-    (Answer.Fault (Fault.Forbidden (wordFetched m u q t) (outerPhysical m u q))) ∷ []
-wordTests m u q Place.Window = []
-wordTests m u q Place.Nowhere = []
+abbrev pub word_tests : Memory → Unit → Access → Place → List Test
+word_tests m u q (Place.There t) =
+    test (is_fetch q && forbidden (job u q).core (outer m u q).entry (word_fetched m u q t))
+    (Answer.Fault (Fault.Forbidden (word_fetched m u q t) (outer_physical m u q))) ∷ []
+word_tests m u q Place.Window = []
+word_tests m u q Place.Nowhere = []
 
 -- "10. Target at or beyond L and not a register above (9).", and step 11
-abbrev pub targetTests : Memory → Unit → Access → List Test
-targetTests m u q =
-    test (noTarget (isFetch q) (outerPlace m u q)) (Answer.Fault Fault.NoTarget) ∷ wordTests m u q (outerPlace m u q)
+abbrev pub target_tests : Memory → Unit → Access → List Test
+target_tests m u q =
+    test (no_target (is_fetch q) (outer_place m u q)) (Answer.Fault Fault.NoTarget) ∷ word_tests m u q (outer_place m u q)
 
 -- "5. Paged odd word (4)." and on
-abbrev pub outerTests : Memory → Unit → Access → List Test
-outerTests m u q =
-    test (oddWord q.width q.addr) (Answer.Fault Fault.OddAddress)
-    ∷ (entryTests q.op (watches (job u q).core.fetch q) (outer m u q).entry ++ targetTests m u q)
+abbrev pub outer_tests : Memory → Unit → Access → List Test
+outer_tests m u q =
+    test (odd_word q.width q.addr) (Answer.Fault Fault.OddAddress)
+    ∷ (entry_tests q.op (watches (job u q).core.fetch q) (outer m u q).entry ++ target_tests m u q)
 
 -- the window "goes on as a user access to KTAD, through steps 5-8 and 10 again"
-abbrev pub innerTests : Memory → Unit → Access → List Test
-innerTests m u q =
-    test (oddWord q.width (windowAddr (job u q))) (Answer.Fault Fault.OddAddress)
-    ∷ (entryTests q.op false (inner m u q).entry
-    ++ (test (noTarget true (place_of u.cells.size (length m) (innerPhysical m u q))) (Answer.Fault Fault.NoTarget) ∷ []))
+abbrev pub inner_tests : Memory → Unit → Access → List Test
+inner_tests m u q =
+    test (odd_word q.width (window_addr (job u q))) (Answer.Fault Fault.OddAddress)
+    ∷ (entry_tests q.op false (inner m u q).entry
+    ++ (test (no_target true (place_of u.cells.size (length m) (inner_physical m u q))) (Answer.Fault Fault.NoTarget) ∷ []))
 
-abbrev pub pagedTests : Memory → Unit → Access → List Test
-pagedTests m u q = outerTests m u q ++ pick (isWindow (outerPlace m u q)) (innerTests m u q) []
+abbrev pub paged_tests : Memory → Unit → Access → List Test
+paged_tests m u q = outer_tests m u q ++ pick (is_window (outer_place m u q)) (inner_tests m u q) []
 
 -- "2. The wait (2); a due sequence access ends here.", and what comes after
-abbrev pub waitTests : Due → List Test → List Test
-waitTests Due.Steps ts = ts
-waitTests Due.OutOfTurn ts = test true Answer.NotDue ∷ []
-waitTests Due.StatusStore ts = []
-waitTests Due.ProgramCounterStore ts = []
-waitTests Due.FirstRead ts = []
-waitTests Due.SecondRead ts = []
+abbrev pub wait_tests : Due → List Test → List Test
+wait_tests Due.Steps ts = ts
+wait_tests Due.OutOfTurn ts = test true Answer.NotDue ∷ []
+wait_tests Due.StatusStore ts = []
+wait_tests Due.ProgramCounterStore ts = []
+wait_tests Due.FirstRead ts = []
+wait_tests Due.SecondRead ts = []
 
 -- the tests of a call: for an access "1. Shape (answer 1)." and on; "In every call 1 comes before 2"; INIT "is always accepted"
-abbrev pub testsOf : Memory → Unit → Call → List Test
-testsOf m u (Call.Access q) =
-    test (not (wellShaped (length m) q)) Answer.Misshapen
-    ∷ waitTests (dueOf u.core q) (pick (unpaged u.core.ktcs.fcn q.state) (unpagedTests m u q) (pagedTests m u q))
-testsOf m u Call.Interrupt = test (not (idle u.core.wait u.core.ktcs.fcn)) Answer.NotDue ∷ []
-testsOf m u (Call.Trap v) =
-    test (not (vectorListed v)) Answer.Misshapen ∷ test (not (idle u.core.wait u.core.ktcs.fcn)) Answer.NotDue ∷ []
-testsOf m u Call.Init = []
+abbrev pub tests_of : Memory → Unit → Call → List Test
+tests_of m u (Call.Access q) =
+    test (not (well_shaped (length m) q)) Answer.Misshapen
+    ∷ wait_tests (due_of u.core q) (pick (unpaged u.core.ktcs.fcn q.state) (unpaged_tests m u q) (paged_tests m u q))
+tests_of m u Call.Interrupt = test (not (idle u.core.wait u.core.ktcs.fcn)) Answer.NotDue ∷ []
+tests_of m u (Call.Trap v) =
+    test (not (vector_listed v)) Answer.Misshapen ∷ test (not (idle u.core.wait u.core.ktcs.fcn)) Answer.NotDue ∷ []
+tests_of m u Call.Init = []
 
 -- an answer that is the one of the first test that refuses, or, where all pass, one that 01's table numbers 0
 pub record ByTests (ts : List Test) (a : Answer) : Type 0 where
@@ -164,7 +164,7 @@ pub record ByTests (ts : List Test) (a : Answer) : Type 0 where
 
 -- "each answer means that its step's test fails and the tests of all earlier steps pass"
 abbrev pub AnsweredInOrder : Type 0
-AnsweredInOrder = (m : Memory) (u : Unit) (c : Call) → ByTests (testsOf m u c) (call_of m u c).reply.answer
+AnsweredInOrder = (m : Memory) (u : Unit) (c : Call) → ByTests (tests_of m u c) (call_of m u c).reply.answer
 
 -- the number of the answer, by 01's table and T-01
 abbrev pub number_of : After → ℕ
@@ -177,10 +177,10 @@ pub record NumbersOfSteps : Type 0 where
   pub shape : (shown Answer.Misshapen).number ≡ 1
   pub wait : (shown Answer.NotDue).number ≡ 2
   pub unpaged-odd : (shown Answer.UnpagedOdd).number ≡ 3
-  pub paged-odd : (shown (Answer.Fault Fault.OddAddress)).number ≡ 4
+  pub paged_odd : (shown (Answer.Fault Fault.OddAddress)).number ≡ 4
   pub walk : (shown (Answer.Fault Fault.NoMapWord)).number ≡ 10
   pub residency : (shown (Answer.Fault Fault.NotResident)).number ≡ 5
-  pub write-key : (shown (Answer.Fault Fault.NotWritable)).number ≡ 6
+  pub write_key : (shown (Answer.Fault Fault.NotWritable)).number ≡ 6
   pub privacy : (shown (Answer.Fault Fault.NotPublic)).number ≡ 7
   pub target : (shown (Answer.Fault Fault.NoTarget)).number ≡ 9
   pub fetched-word : (w at : ℕ) → (shown (Answer.Fault (Fault.Forbidden w at))).number ≡ 8
@@ -205,14 +205,14 @@ EighteenBits =
 
 -- steps 1 and 2 passed
 pub record Begun (m : Memory) (u : Unit) (q : Access) : Type 0 where
-  pub shaped : wellShaped (length m) q ≡ true
-  pub due : dueOf u.core q ≡ Due.Steps
+  pub shaped : well_shaped (length m) q ≡ true
+  pub due : due_of u.core q ≡ Due.Steps
 
 -- unpaged, and step 3 passed
 pub record Unpaged (m : Memory) (u : Unit) (q : Access) : Type 0 where
   pub steps : Begun m u q
   pub mode : unpaged u.core.ktcs.fcn q.state ≡ true
-  pub even : oddWord q.width q.addr ≡ false
+  pub even : odd_word q.width q.addr ≡ false
 
 -- paged, which passes step 3
 pub record Paged (m : Memory) (u : Unit) (q : Access) : Type 0 where
@@ -221,27 +221,27 @@ pub record Paged (m : Memory) (u : Unit) (q : Access) : Type 0 where
 
 -- "The walk itself should report that it ran off memory" (T-01): the page is walked, since no cell of k holds it, and its walk does not finish
 pub record RanOff (m : Memory) (r : Maps) (k : Cells) (user : Bool) (p : ℕ) : Type 0 where
-  pub no_cell : (i : ℕ) → (cell_at k i).tag ≢ tagOf user p
+  pub no_cell : (i : ℕ) → (cell_at k i).tag ≢ tag_of user p
   pub walk : walk_of m r user p ≡ Walk.Off
 
 -- the walk of the access's own page; exec page 0 is never walked
 pub record OuterRanOff (m : Memory) (u : Unit) (q : Access) : Type 0 where
-  pub even : oddWord q.width q.addr ≡ false
-  pub not-exec-zero : execZero u.core.ktcs.um (page_of q.addr) ≡ false
-  pub ran-off : RanOff m u.maps u.cells u.core.ktcs.um (page_of q.addr)
+  pub even : odd_word q.width q.addr ≡ false
+  pub not_exec_zero : exec_zero u.core.ktcs.um (page_of q.addr) ≡ false
+  pub ran_off : RanOff m u.maps u.cells u.core.ktcs.um (page_of q.addr)
 
 -- a paged access that goes on through the window: all tests of its own page pass, its target is the window, it is no fetch, and step 5 passes again, since
 -- KTAD is no odd word
 pub record GoesInside (m : Memory) (u : Unit) (q : Access) : Type 0 where
-  pub passes : allPass (outerTests m u q) ≡ true
-  pub window : outerPlace m u q ≡ Place.Window
-  pub no-fetch : isFetch q ≡ false
-  pub even : oddWord q.width (get_or u.core.kept ktad 0) ≡ false
+  pub passes : all_pass (outer_tests m u q) ≡ true
+  pub window : outer_place m u q ≡ Place.Window
+  pub no_fetch : is_fetch q ≡ false
+  pub even : odd_word q.width (get_or u.core.kept ktad 0) ≡ false
 
 -- "also in the window's inner walk": of KTAD's page as a user's, by the cells that the outer look_up left
 pub record InnerRanOff (m : Memory) (u : Unit) (q : Access) : Type 0 where
   pub inside : GoesInside m u q
-  pub ran-off : RanOff m u.maps (outer m u q).cells true (page_of (get_or u.core.kept ktad 0))
+  pub ran_off : RanOff m u.maps (outer m u q).cells true (page_of (get_or u.core.kept ktad 0))
 
 -- what 10 means
 pub data WalkRanOff (m : Memory) (u : Unit) : Call → Type 0 where
@@ -251,17 +251,17 @@ pub data WalkRanOff (m : Memory) (u : Unit) : Call → Type 0 where
 -- "answer 9 stays for targets" (T-01): of an unpaged access, of the access's own page, all of whose keys pass, and of a window's inner page alike
 pub record UnpagedNowhere (m : Memory) (u : Unit) (q : Access) : Type 0 where
   pub steps : Unpaged m u q
-  pub nowhere : noTarget true (place_of u.cells.size (length m) (unpagedAt q.addr)) ≡ true
+  pub nowhere : no_target true (place_of u.cells.size (length m) (unpaged_at q.addr)) ≡ true
 
 pub record OuterNowhere (m : Memory) (u : Unit) (q : Access) : Type 0 where
-  pub even : oddWord q.width q.addr ≡ false
-  pub passes : allPass (entryTests q.op (watches (job u q).core.fetch q) (outer m u q).entry) ≡ true
-  pub nowhere : noTarget (isFetch q) (outerPlace m u q) ≡ true
+  pub even : odd_word q.width q.addr ≡ false
+  pub passes : all_pass (entry_tests q.op (watches (job u q).core.fetch q) (outer m u q).entry) ≡ true
+  pub nowhere : no_target (is_fetch q) (outer_place m u q) ≡ true
 
 pub record InnerNowhere (m : Memory) (u : Unit) (q : Access) : Type 0 where
   pub inside : GoesInside m u q
-  pub passes : allPass (entryTests q.op false (inner m u q).entry) ≡ true
-  pub nowhere : noTarget true (place_of u.cells.size (length m) (innerPhysical m u q)) ≡ true
+  pub passes : all_pass (entry_tests q.op false (inner m u q).entry) ≡ true
+  pub nowhere : no_target true (place_of u.cells.size (length m) (inner_physical m u q)) ≡ true
 
 -- what 9 means
 pub data TargetNowhere (m : Memory) (u : Unit) : Call → Type 0 where
@@ -301,31 +301,31 @@ pub record StatesOnly (s t : Ktcs) : Type 0 where
 -- paging; another access clears neither.
 pub record Step4Status (q : Access) (s t : Ktcs) : Type 0 where
   pub only : StatesOnly s t
-  pub fetch-ss : isFetch q ≡ true → s.ss ≡ false → t.ss ≡ false
-  pub fetch-ds : isFetch q ≡ true → s.ds ≡ false → t.ds ≡ false
-  pub fetch-not-normal : isFetch q ≡ true → normal s q ≡ false → t ≡ s
-  pub ss-stands : isFetch q ≡ false → s.ss ≡ true → t.ss ≡ true
-  pub ds-stands : isFetch q ≡ false → s.ds ≡ true → t.ds ≡ true
-  pub fcn-zero : s.fcn ≡ 0 → t ≡ s
-  pub flagged : flagsClear s ≡ false → t ≡ s
+  pub fetch_ss : is_fetch q ≡ true → s.ss ≡ false → t.ss ≡ false
+  pub fetch_ds : is_fetch q ≡ true → s.ds ≡ false → t.ds ≡ false
+  pub fetch_not_normal : is_fetch q ≡ true → normal s q ≡ false → t ≡ s
+  pub ss_stands : is_fetch q ≡ false → s.ss ≡ true → t.ss ≡ true
+  pub ds_stands : is_fetch q ≡ false → s.ds ≡ true → t.ds ≡ true
+  pub fcn_zero : s.fcn ≡ 0 → t ≡ s
+  pub flagged : flags_clear s ≡ false → t ≡ s
 
 -- Of KTIC to KTDT, KTIC alone moves: by a paged fetch, where no error flag stands.
 pub record Step4Registers (q : Access) (c d : Core) : Type 0 where
   pub count : length d.kept ≡ length c.kept
   pub others : (i : ℕ) → i ≢ ktic → get_or d.kept i 0 ≡ get_or c.kept i 0
   pub unpaged-access : unpaged c.ktcs.fcn q.state ≡ true → d.kept ≡ c.kept
-  pub no-fetch : isFetch q ≡ false → d.kept ≡ c.kept
-  pub flagged : flagsClear c.ktcs ≡ false → d.kept ≡ c.kept
+  pub no_fetch : is_fetch q ≡ false → d.kept ≡ c.kept
+  pub flagged : flags_clear c.ktcs ≡ false → d.kept ≡ c.kept
 
 -- Of the fetch memory the counts alone move: not by a fetch, that of DATOs by a DATO alone, and a count that is 2 stays so.
 pub record Step4Counts (q : Access) (f g : Fetch) : Type 0 where
   pub newer : g.newer ≡ f.newer
   pub older : g.older ≡ f.older
   pub public : g.public ≡ f.public
-  pub by-fetch : isFetch q ≡ true → g ≡ f
-  pub datos : isDato q ≡ false → g.datos ≡ f.datos
-  pub datos-stop : f.datos ≡ 2 → g.datos ≡ 2
-  pub accesses-stop : f.accesses ≡ 2 → g.accesses ≡ 2
+  pub by_fetch : is_fetch q ≡ true → g ≡ f
+  pub datos : is_dato q ≡ false → g.datos ≡ f.datos
+  pub datos_stop : f.datos ≡ 2 → g.datos ≡ 2
+  pub accesses_stop : f.accesses ≡ 2 → g.accesses ≡ 2
 
 pub record Step4Keeps (q : Access) (c d : Core) : Type 0 where
   pub ktcs : Step4Status q c.ktcs d.ktcs
@@ -342,9 +342,9 @@ pub record Step6Keeps (user : Bool) (p : ℕ) (k : Cells) (l : Looked) : Type 0 
   pub size : l.cells.size ≡ k.size
   pub count : length (there l.cells) ≡ length (there k)
   pub others : (i : ℕ) → i ≢ k.counter - 0o10 → cell_at l.cells i ≡ cell_at k i
-  pub hit : {i : ℕ} → cell_of k (tagOf user p) ≡ Found.At i → l.cells ≡ k
-  pub ran-off : l.entry ≡ Entry.OffMap → l.cells ≡ k
-  pub exec-zero : execZero user p ≡ true → l.cells ≡ k
+  pub hit : {i : ℕ} → cell_of k (tag_of user p) ≡ Found.At i → l.cells ≡ k
+  pub ran_off : l.entry ≡ Entry.OffMap → l.cells ≡ k
+  pub at_exec_zero : exec_zero user p ≡ true → l.cells ≡ k
 
 abbrev pub Step6Leaves : Type 0
 Step6Leaves = (m : Memory) (r : Maps) (user : Bool) (p : ℕ) (k : Cells) → Step6Keeps user p k (looked m r user p k)
@@ -359,7 +359,7 @@ RefusedUnchanged =
 -- "an unpaged 9 changes only what step 4 does, KTAD and KTDT"
 pub record UnpagedTimeOut (u : Unit) (q : Access) (a : After) : Type 0 where
   pub number : number_of a ≡ 9
-  pub core : a.reply.unit.core ≡ timedOut (noted u.core q) q
+  pub core : a.reply.unit.core ≡ timed_out (noted u.core q) q
   pub maps : a.reply.unit.maps ≡ u.maps
   pub cells : a.reply.unit.cells ≡ u.cells
   pub ktcs : a.reply.unit.core.ktcs ≡ (noted u.core q).ktcs
@@ -379,7 +379,7 @@ UnpagedRefusal =
 -- and 10 have none. "IU takes UM; UM clears; FCN 3 becomes 2; .. fetch memory clears; the unit waits for two SERVICE DATOs."
 pub record ViolationKeeps (q : Access) (window : Bool) (f : Fault) (c d : Core) : Type 0 where
   pub fcn : eqb c.ktcs.fcn 3 ≡ false → d.ktcs.fcn ≡ c.ktcs.fcn
-  pub fcn-three : eqb c.ktcs.fcn 3 ≡ true → d.ktcs.fcn ≡ 2
+  pub fcn_three : eqb c.ktcs.fcn 3 ≡ true → d.ktcs.fcn ≡ 2
   pub um : d.ktcs.um ≡ false
   pub iu : d.ktcs.iu ≡ c.ktcs.um
   pub ss : d.ktcs.ss ≡ (noted c q).ktcs.ss
@@ -394,7 +394,7 @@ pub record ViolationKeeps (q : Access) (window : Bool) (f : Fault) (c d : Core) 
   pub registers : (i : ℕ) → i ≢ ktic → i ≢ ktad → i ≢ ktdt → get_or d.kept i 0 ≡ get_or c.kept i 0
   pub inner-address : window ≡ true → get_or d.kept ktad 0 ≡ get_or c.kept ktad 0
   pub wait : d.wait ≡ Wait.StatusDue
-  pub fetch : d.fetch ≡ clearFetch
+  pub fetch : d.fetch ≡ clear_fetch
 
 -- Emptying the cell of the page at fault makes l of the cells k: the counter and the cells of other pages stay, and all where the page has none.
 pub record ForgottenKeeps (tag : ℕ) (k l : Cells) : Type 0 where
@@ -405,27 +405,27 @@ pub record ForgottenKeeps (tag : ℕ) (k l : Cells) : Type 0 where
   pub others : (i : ℕ) → (cell_at k i).tag ≢ tag → cell_at l i ≡ cell_at k i
 
 -- of an access that steps 5 to 11 refuse, whether the page at fault is a window's inner one: all tests of its own page pass
-abbrev pub faultInside : Memory → Unit → Access → Bool
-faultInside m u q = allPass (outerTests m u q)
+abbrev pub fault_inside : Memory → Unit → Access → Bool
+fault_inside m u q = all_pass (outer_tests m u q)
 
-abbrev pub tagAtFault : Memory → Unit → Access → ℕ
-tagAtFault m u q = pick (faultInside m u q) (innerTag u q) (outerTag u q)
+abbrev pub tag_at_fault : Memory → Unit → Access → ℕ
+tag_at_fault m u q = pick (fault_inside m u q) (inner_tag u q) (outer_tag u q)
 
 -- the cells as step 6 left them: an odd address is refused before it
-abbrev pub cellsLooked : Memory → Unit → Access → Cells
-cellsLooked m u q =
-    pick (oddWord q.width q.addr) u.cells
-    (pick (faultInside m u q && not (oddWord q.width (windowAddr (job u q)))) (inner m u q).cells (outer m u q).cells)
+abbrev pub cells_looked : Memory → Unit → Access → Cells
+cells_looked m u q =
+    pick (odd_word q.width q.addr) u.cells
+    (pick (fault_inside m u q && not (odd_word q.width (window_addr (job u q)))) (inner m u q).cells (outer m u q).cells)
 
 -- "answers 4 to 8 and a paged 9 change only what steps 4 and 6 do and the sequence", and so does 10: "State changes are as for 9" (T-01)
 pub record Violation (m : Memory) (u : Unit) (q : Access) (a : After) : Type 0 where
   pub fault : Fault
   pub answer : a.reply.answer ≡ Answer.Fault fault
-  pub core : a.reply.unit.core ≡ violated (noted u.core q) q (faultInside m u q) fault
+  pub core : a.reply.unit.core ≡ violated (noted u.core q) q (fault_inside m u q) fault
   pub maps : a.reply.unit.maps ≡ u.maps
-  pub cells : a.reply.unit.cells ≡ forgotten (cellsLooked m u q) (tagAtFault m u q)
-  pub keeps : ViolationKeeps q (faultInside m u q) fault u.core a.reply.unit.core
-  pub others : ForgottenKeeps (tagAtFault m u q) (cellsLooked m u q) a.reply.unit.cells
+  pub cells : a.reply.unit.cells ≡ forgotten (cells_looked m u q) (tag_at_fault m u q)
+  pub keeps : ViolationKeeps q (fault_inside m u q) fault u.core a.reply.unit.core
+  pub others : ForgottenKeeps (tag_at_fault m u q) (cells_looked m u q) a.reply.unit.cells
 
 abbrev pub PagedRefusal : Type 0
 PagedRefusal =
@@ -449,9 +449,9 @@ pub record ModesOnly (c d : Core) : Type 0 where
   pub wv : d.ktcs.wv ≡ c.ktcs.wv
   pub av : d.ktcs.av ≡ c.ktcs.av
   pub iv : d.ktcs.iv ≡ c.ktcs.iv
-  pub exec-um : c.ktcs.um ≡ false → d.ktcs.um ≡ false
-  pub exec-wait : c.ktcs.um ≡ false → d.wait ≡ c.wait
-  pub exec-fetch : c.ktcs.um ≡ false → d.fetch ≡ c.fetch
+  pub exec_um : c.ktcs.um ≡ false → d.ktcs.um ≡ false
+  pub exec_wait : c.ktcs.um ≡ false → d.wait ≡ c.wait
+  pub exec_fetch : c.ktcs.um ≡ false → d.fetch ≡ c.fetch
 
 pub record InterruptKeeps (m : Memory) (u : Unit) (a : After) : Type 0 where
   pub memory : a.memory ≡ m
@@ -471,11 +471,11 @@ ExecTrapUnchanged = (m : Memory) (u : Unit) (v : ℕ) → u.core.ktcs.um ≡ fal
 
 -- "vector 34o when the last two fetched words are not both TRAP; that changes nothing"
 abbrev pub OtherTrapUnchanged : Type 0
-OtherTrapUnchanged = (m : Memory) (u : Unit) → trapTwice u.core.fetch ≡ false → (call_of m u (Call.Trap 0o34)).reply.unit ≡ u
+OtherTrapUnchanged = (m : Memory) (u : Unit) → trap_twice u.core.fetch ≡ false → (call_of m u (Call.Trap 0o34)).reply.unit ≡ u
 
 -- "empties all cells and sets the counter to 10o" makes l of the cells k; how many there are stays
 pub record Reloaded (k l : Cells) : Type 0 where
-  pub cells : (i : ℕ) → cell_at l i ≡ emptyCell
+  pub cells : (i : ℕ) → cell_at l i ≡ empty_cell
   pub counter : l.counter ≡ 0o10
   pub size : l.size ≡ k.size
 
@@ -493,7 +493,7 @@ InitLeaves = (m : Memory) (u : Unit) → InitKeeps m u (call_of m u Call.Init)
 
 -- Which calls store into a map register or a scratchpad word is `EffectsByAnswer` of Ways.antt, and what their effect does to the cells is this.
 abbrev pub ReloadEmpties : Type 0
-ReloadEmpties = (r : Maps) (k : Cells) → Reloaded k (cellsAfter (Effect.Reload r) k)
+ReloadEmpties = (r : Maps) (k : Cells) → Reloaded k (cells_after (Effect.Reload r) k)
 
 -- "A store into a scratchpad word leaves the tag, and does nothing in an empty cell (H).": a store into the word of cell i makes l of the cells k
 pub record PadTakes (i : ℕ) (p : Part) (v : ℕ) (k l : Cells) : Type 0 where
@@ -506,7 +506,7 @@ pub record PadTakes (i : ℕ) (p : Part) (v : ℕ) (k l : Cells) : Type 0 where
 
 abbrev pub PadStoreTakes : Type 0
 PadStoreTakes =
-    (k : Cells) (i : ℕ) (p : Part) (v : ℕ) → i < length (there k) → PadTakes i p v k (cellsAfter (Effect.StorePad i p v) k)
+    (k : Cells) (i : ℕ) (p : Part) (v : ℕ) → i < length (there k) → PadTakes i p v k (cells_after (Effect.StorePad i p v) k)
 
 -- Making, and how many cells there are ------------------------------------------------------------------------------------
 
@@ -522,12 +522,12 @@ pub record FreshUnit (s : Size) (u : Unit) : Type 0 where
 -- "8 and 24 give a fresh unit .. Every other number gives 30 and no unit." (T-08): the sizes by the number that is asked for
 pub record MadeOrRefused : Type 0 where
   pub eight : size_of 8 ≡ Making.With Size.Eight
-  pub twenty-four : size_of 24 ≡ Making.With Size.TwentyFour
+  pub of_twenty_four : size_of 24 ≡ Making.With Size.TwentyFour
   pub other : (n : ℕ) → n ≢ 8 → n ≢ 24 → size_of n ≡ Making.OtherCount
   -- what is made has as many cells as were asked for
-  pub count : (n : ℕ) (s : Size) → size_of n ≡ Making.With s → countOf s ≡ n
-  pub made : (s : Size) → makingShown (Making.With s) ≡ record { number = 0; datum = 0; physical = Physical.Nowhere }
-  pub refused : makingShown Making.OtherCount ≡ record { number = 30; datum = 0; physical = Physical.Nowhere }
+  pub count : (n : ℕ) (s : Size) → size_of n ≡ Making.With s → count_of s ≡ n
+  pub made : (s : Size) → making_shown (Making.With s) ≡ record { number = 0; datum = 0; physical = Physical.Nowhere }
+  pub refused : making_shown Making.OtherCount ≡ record { number = 30; datum = 0; physical = Physical.Nowhere }
   pub fresh-unit : (s : Size) → FreshUnit s (fresh s)
 
 -- "Cell i (from 0) is the one that the counter names at 10o + i" (T-08): the one that a finished walk fills, and the one whose scratchpad word
@@ -536,8 +536,8 @@ pub record FilledAt (i tag w : ℕ) (k : Cells) : Type 0 where
   pub cell : cell_at k i ≡ record { tag = tag; word = w }
   pub read : peeked k (Associative.Pad i) ≡ w
   -- "then the counter steps .. and round"
-  pub next : i + 1 < countOf k.size → k.counter ≡ 0o10 + (i + 1)
-  pub round : i + 1 ≡ countOf k.size → k.counter ≡ 0o10
+  pub next : i + 1 < count_of k.size → k.counter ≡ 0o10 + (i + 1)
+  pub round : i + 1 ≡ count_of k.size → k.counter ≡ 0o10
 
 abbrev pub CellByCounter : Type 0
 CellByCounter = (k : Cells) (i tag w : ℕ) → k.counter ≡ 0o10 + i → i < length (there k) → FilledAt i tag w (filled k tag w)
@@ -568,7 +568,7 @@ AbsentUnseen = (m : Memory) (u v : Unit) (c : Call) → Alike u v → AlikeAfter
 
 -- a unit's n cells, in a list with room for all, one of which the counter names: the first of them is 10 octal
 pub record NamesCell (n : ℕ) (k : Cells) : Type 0 where
-  pub size : countOf k.size ≡ n
+  pub size : count_of k.size ≡ n
   pub number : length (there k) ≡ n
   pub listed : length k.list ≡ room
   pub from : 0o10 ≤ k.counter
@@ -585,7 +585,7 @@ pub record CellsFit (n : ℕ) (k : Cells) : Type 0 where
   -- a tag is that of a page, by 7 bits, with 128 for a user's
   pub tags : (i : ℕ) → (cell_at k i).tag < 256
   -- in the room of cells that the unit hasn't got nothing stands
-  pub absent : (i : ℕ) → n ≤ i → get_or k.list i emptyCell ≡ emptyCell
+  pub absent : (i : ℕ) → n ≤ i → get_or k.list i empty_cell ≡ empty_cell
 
 -- the wait agrees with FCN and UM (`record {}` asks nothing)
 abbrev pub WaitFits : Wait → ℕ → Bool → Type 0
@@ -607,14 +607,14 @@ pub record UnitFit (n : ℕ) (u : Unit) : Type 0 where
 
 -- From a fresh unit of either size, after any calls, each over a memory of its own: so the host may change memory between them.
 abbrev pub AlwaysFit : Type 0
-AlwaysFit = (s : Size) (ts : List Turn) → UnitFit (countOf s) (unitAfter (fresh s) ts)
+AlwaysFit = (s : Size) (ts : List Turn) → UnitFit (count_of s) (unit_after (fresh s) ts)
 
 -- Exec page zero stands in no cell: its tag is the one that means empty, which no other page has, and a look_up of it gives physical page M of
 -- KTEM whatever the cells hold, and leaves them.
 pub record ExecZeroUncelled : Type 0 where
-  pub tag-zero : (user : Bool) (p : ℕ) → execZero user p ≡ true → tagOf user p ≡ 0
-  pub tag-other : (user : Bool) (p : ℕ) → execZero user p ≡ false → tagOf user p ≢ 0
-  pub look_up : (m : Memory) (r : Maps) (k : Cells) → looked m r false 0 k ≡ record { entry = execZeroEntry r; cells = k }
+  pub tag-zero : (user : Bool) (p : ℕ) → exec_zero user p ≡ true → tag_of user p ≡ 0
+  pub tag-other : (user : Bool) (p : ℕ) → exec_zero user p ≡ false → tag_of user p ≢ 0
+  pub look_up : (m : Memory) (r : Maps) (k : Cells) → looked m r false 0 k ≡ record { entry = exec_zero_entry r; cells = k }
 
 -- Demand 3, second part: on the premises, which `meets` of specs/Runs.antt computes (`crates/worked` has runs that meet them) ---
 
@@ -623,60 +623,60 @@ pub record HoldsItsPage (m : Memory) (r : Maps) (c : Cell) : Type 0 where
   pub user : Bool
   pub page : ℕ
   pub below : page < 128
-  pub tag : c.tag ≡ tagOf user page
+  pub tag : c.tag ≡ tag_of user page
   pub word : entry_of (walk_of m r user page) ≡ Entry.Mapped c.word
 
 -- where a run stands: each cell holds what the walk of its page now gives, unless it is empty or its page is outdated
 abbrev pub CellsTrueAt : Station → History → Type 0
 CellsTrueAt s h =
-    (i : ℕ) → (cell_at s.unit.cells i).tag ≢ 0 → isOutdated (h (cell_at s.unit.cells i).tag) ≡ false
+    (i : ℕ) → (cell_at s.unit.cells i).tag ≢ 0 → is_outdated (h (cell_at s.unit.cells i).tag) ≡ false
     → HoldsItsPage s.memory s.unit.maps (cell_at s.unit.cells i)
 
 -- So it is after every prefix cs of a run cs ++ ds that meets the premises.
 abbrev pub CellsTrueThroughout : Type 0
 CellsTrueThroughout =
-    (s : Size) (m : Memory) (cs ds : List Call) → meets m (fresh s) noneInUse (cs ++ ds) ≡ true
-    → CellsTrueAt (stationAfter m (fresh s) cs) (historyOf m (fresh s) noneInUse cs)
+    (s : Size) (m : Memory) (cs ds : List Call) → meets m (fresh s) none_in_use (cs ++ ds) ≡ true
+    → CellsTrueAt (station_after m (fresh s) cs) (history_of m (fresh s) none_in_use cs)
 
 -- After each call of such a run the answer with its data and physical address, KTCS, the registers, the wait, the fetch memory and every byte of
 -- memory are those of the unit with no cells, which walks the maps on every access.
 abbrev pub SameAsPlain : Type 0
 SameAsPlain =
-    (s : Size) (m : Memory) (cs : List Call) → meets m (fresh s) noneInUse cs ≡ true
-    → seenAlong m (fresh s) cs ≡ plainAlong m (plain_of (fresh s)) cs
+    (s : Size) (m : Memory) (cs : List Call) → meets m (fresh s) none_in_use cs ≡ true
+    → seen_along m (fresh s) cs ≡ plain_along m (plain_of (fresh s)) cs
 
 -- All of them ------------------------------------------------------------------------------------------------------------
 
 pub record Promises : Type 0 where
   -- Demand 1
-  pub answered-in-order : AnsweredInOrder
-  pub numbers-of-steps : NumbersOfSteps
+  pub answered_in_order : AnsweredInOrder
+  pub numbers_of_steps : NumbersOfSteps
   pub numbered : Numbered
   pub bare-refusals : BareRefusals
   pub two-reasons : TwoReasons
-  pub eighteen-bits : EighteenBits
+  pub eighteen_bits : EighteenBits
   pub memory-untouched : MemoryUntouched
-  pub length-kept : LengthKept
+  pub length_kept : LengthKept
   pub refused-unchanged : RefusedUnchanged
   pub unpaged-refusal : UnpagedRefusal
-  pub paged-refusal : PagedRefusal
-  pub as-for-nine : AsForNine
-  pub step4-leaves : Step4Leaves
-  pub step6-leaves : Step6Leaves
-  pub interrupt-leaves : InterruptLeaves
-  pub trap-leaves : TrapLeaves
-  pub exec-trap-unchanged : ExecTrapUnchanged
-  pub other-trap-unchanged : OtherTrapUnchanged
-  pub init-leaves : InitLeaves
-  pub reload-empties : ReloadEmpties
-  pub pad-store-takes : PadStoreTakes
+  pub paged_refusal : PagedRefusal
+  pub as_for_nine : AsForNine
+  pub step4_leaves : Step4Leaves
+  pub step6_leaves : Step6Leaves
+  pub interrupt_leaves : InterruptLeaves
+  pub trap_leaves : TrapLeaves
+  pub exec_trap_unchanged : ExecTrapUnchanged
+  pub other_trap_unchanged : OtherTrapUnchanged
+  pub init_leaves : InitLeaves
+  pub reload_empties : ReloadEmpties
+  pub pad_store_takes : PadStoreTakes
   -- Making
-  pub made-or-refused : MadeOrRefused
-  pub cell-by-counter : CellByCounter
+  pub made_or_refused : MadeOrRefused
+  pub cell_by_counter : CellByCounter
   pub size-stays : SizeStays
   pub absent-unseen : AbsentUnseen
   -- Demand 3
-  pub always-fit : AlwaysFit
-  pub exec-zero-uncelled : ExecZeroUncelled
-  pub cells-true-throughout : CellsTrueThroughout
-  pub same-as-plain : SameAsPlain
+  pub always_fit : AlwaysFit
+  pub exec_zero_uncelled : ExecZeroUncelled
+  pub cells_true_throughout : CellsTrueThroughout
+  pub same_as_plain : SameAsPlain

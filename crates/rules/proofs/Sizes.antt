@@ -12,78 +12,78 @@ use borrow.Author.Tests.{eqb-true, ne_eqb, lt-ltb, le-ltb}
 use Rattle.rules.specs.Types.{Core, Maps, Cell, Size, Making, Cells, Unit, Call, Found, Associative, Part, Walk, Entry, Looked, Effect, Outcome, Ran}
 use Rattle.rules.specs.Choice.{pick}
 use Rattle.rules.specs.Memory.{Memory}
-use Rattle.rules.specs.Unit.{countOf, size_of, there, emptyCell, cell_at, emptied, clearKtcs, clearFetch, initCore, zero_unit}
+use Rattle.rules.specs.Unit.{count_of, size_of, there, empty_cell, cell_at, emptied, clear_ktcs, clear_fetch, init_core, zero_unit}
 use Rattle.rules.specs.Status.{bit_of, packed}
-use Rattle.rules.specs.Registers.{found_from, peeked, cellStored, padStored}
-use Rattle.rules.specs.Maps.{execZero, execZeroEntry, walk_of, tagOf, tagIn, cell_of, stepped, filled, filledBy, missed, soughtIn, looked, cellForgotten, forgotten}
+use Rattle.rules.specs.Registers.{found_from, peeked, cell_stored, pad_stored}
+use Rattle.rules.specs.Maps.{exec_zero, exec_zero_entry, walk_of, tag_of, tag_in, cell_of, stepped, filled, filled_by, missed, sought_in, looked, cell_forgotten, forgotten}
 use Rattle.rules.specs.Program.{Prog, done, ask, peek, run}
 use Rattle.rules.specs.Order.{outcome}
-use Rattle.rules.specs.Answers.{shownAs, makingShown}
-use Rattle.rules.specs.Calls.{called, initOf, mapsAfter, cellsAfter, memoryAfter, settled, call_of, fresh}
+use Rattle.rules.specs.Answers.{shown_as, making_shown}
+use Rattle.rules.specs.Calls.{called, init_of, maps_after, cells_after, memory_after, settled, call_of, fresh}
 use Rattle.rules.proofs.Laws.Choices.{picked}
 use Rattle.rules.proofs.Laws.CellsLaws.{there-filled, there-stored, there-forgotten, there-emptied}
 use Rattle.rules.proofs.Promises.{FreshUnit, MadeOrRefused, CellByCounter, SizeStays, Alike, AlikeAfter, AbsentUnseen}
 
 -- Making -------------------------------------------------------------------------------------------------------------------
 
-made-count : (n : ℕ) (s : Size) → size_of n ≡ Making.With s → countOf s ≡ n
-unfolding size_of countOf pick
-made-count n s = go (eqb n 8) refl (eqb n 24) refl
+made_count : (n : ℕ) (s : Size) → size_of n ≡ Making.With s → count_of s ≡ n
+unfolding size_of count_of pick
+made_count n s = go (eqb n 8) refl (eqb n 24) refl
   where
     go : (a : Bool) → eqb n 8 ≡ a → (b : Bool) → eqb n 24 ≡ b
-        → pick a (Making.With Size.Eight) (pick b (Making.With Size.TwentyFour) Making.OtherCount) ≡ Making.With s → countOf s ≡ n
+        → pick a (Making.With Size.Eight) (pick b (Making.With Size.TwentyFour) Making.OtherCount) ≡ Making.With s → count_of s ≡ n
     go true t b u e = let z : Size.Eight ≡ s = cc in rw (← z) (sym (eqb-true n 8 t))
     go false t true u e = let z : Size.TwentyFour ≡ s = cc in rw (← z) (sym (eqb-true n 24 u))
     go false t false u e = absurd (let z : ◌≡◌ {A = ℕ} 0 1 = cc in omega arith)
 
-made-fresh : (s : Size) → FreshUnit s (fresh s)
-unfolding fresh call_of settled run called initOf outcome mapsAfter cellsAfter zero_unit initCore clearKtcs clearFetch emptied emptyCell packed bit_of pick
-made-fresh s = record { ktcs = refl; kept = refl; wait = refl; fetch = refl; maps = refl; cells = refl }
+made_fresh : (s : Size) → FreshUnit s (fresh s)
+unfolding fresh call_of settled run called init_of outcome maps_after cells_after zero_unit init_core clear_ktcs clear_fetch emptied empty_cell packed bit_of pick
+made_fresh s = record { ktcs = refl; kept = refl; wait = refl; fetch = refl; maps = refl; cells = refl }
 
-pub made-or-refused : MadeOrRefused
-unfolding size_of makingShown shownAs pick
-made-or-refused =
+pub made_or_refused : MadeOrRefused
+unfolding size_of making_shown shown_as pick
+made_or_refused =
     record {
       eight = refl;
-      twenty-four = refl;
+      of_twenty_four = refl;
       other = λ n a b. simp (ne_eqb n 8 a, ne_eqb n 24 b);
-      count = made-count;
+      count = made_count;
       made = λ s. refl;
       refused = refl;
-      fresh-unit = made-fresh;
+      fresh-unit = made_fresh;
     }
 
 -- The cell that the counter names ------------------------------------------------------------------------------------------
 
-pub cell-by-counter : CellByCounter
+pub cell_by_counter : CellByCounter
 unfolding peeked filled stepped pick
-cell-by-counter k i tag w e inside =
+cell_by_counter k i tag w e inside =
     let named : k.counter - 0o10 ≡ i = omega (arith, e) in
     let held : cell_at (filled k tag w) i ≡ record { tag = tag; word = w } =
-    ap (λ (l : List Cell). get_or l i emptyCell) (there-filled k tag w)
-    ∙ rw named (get_or-set_same (there k) i (record { tag = tag; word = w }) emptyCell inside) in
+    ap (λ (l : List Cell). get_or l i empty_cell) (there-filled k tag w)
+    ∙ rw named (get_or-set_same (there k) i (record { tag = tag; word = w }) empty_cell inside) in
     record {
       cell = held;
       read = ap (λ (c : Cell). c.word) held;
-      next = λ h. rw (lt-ltb k.counter (0o7 + countOf k.size) (omega (arith, e, h))) (omega (arith, e));
-      round = λ h. rw (le-ltb k.counter (0o7 + countOf k.size) (omega (arith, e, h)));
+      next = λ h. rw (lt-ltb k.counter (0o7 + count_of k.size) (omega (arith, e, h))) (omega (arith, e));
+      round = λ h. rw (le-ltb k.counter (0o7 + count_of k.size) (omega (arith, e, h)));
     }
 
 -- The size stays -----------------------------------------------------------------------------------------------------------
 
 module _ (m : Memory) (r : Maps) where
   looked-size : (user : Bool) (p : ℕ) (k : Cells) → (looked m r user p k).cells.size ≡ k.size
-  unfolding looked soughtIn missed filledBy filled
+  unfolding looked sought_in missed filled_by filled
   looked-size user p k =
-      picked (λ (l : Looked). l.cells.size ≡ k.size) (execZero user p) _ _ (λ t. refl) (λ t. sought (cell_of k (tagOf user p)))
+      picked (λ (l : Looked). l.cells.size ≡ k.size) (exec_zero user p) _ _ (λ t. refl) (λ t. sought (cell_of k (tag_of user p)))
     where
-      by-walk : (w : Walk) → (filledBy k (tagOf user p) w).size ≡ k.size
-      by-walk (Walk.Finished w rs) = refl
-      by-walk Walk.Off = refl
+      by_walk : (w : Walk) → (filled_by k (tag_of user p) w).size ≡ k.size
+      by_walk (Walk.Finished w rs) = refl
+      by_walk Walk.Off = refl
 
-      sought : (f : Found) → (soughtIn m r user p k f).cells.size ≡ k.size
+      sought : (f : Found) → (sought_in m r user p k f).cells.size ≡ k.size
       sought (Found.At i) = refl
-      sought Found.Missing = by-walk (walk_of m r user p)
+      sought Found.Missing = by_walk (walk_of m r user p)
 
   run-size : (p : Prog) (k : Cells) → (run m r p k).cells.size ≡ k.size
   unfolding run
@@ -91,8 +91,8 @@ module _ (m : Memory) (r : Maps) where
   run-size (ask user p f) k = run-size (f (looked m r user p k).entry) (looked m r user p k).cells ∙ looked-size user p k
   run-size (peek g f) k = run-size (f (peeked k g)) k
 
-effect-size : (e : Effect) (k : Cells) → (cellsAfter e k).size ≡ k.size
-unfolding cellsAfter forgotten emptied padStored
+effect-size : (e : Effect) (k : Cells) → (cells_after e k).size ≡ k.size
+unfolding cells_after forgotten emptied pad_stored
 effect-size Effect.Keep k = refl
 effect-size (Effect.Forget tag) k = refl
 effect-size (Effect.Reload r) k = refl
@@ -138,8 +138,8 @@ module _ (k l : Cells) (h : CellsAlike k l) where
   unfolding emptied
   emptied-alike = record { size = h.size; counter = refl; cells = there-emptied k ∙ (rw h.cells) ∙ sym (there-emptied l) }
 
-  stored-alike : (i : ℕ) (p : Part) (v : ℕ) → CellsAlike (padStored k i p v) (padStored l i p v)
-  unfolding padStored
+  stored-alike : (i : ℕ) (p : Part) (v : ℕ) → CellsAlike (pad_stored k i p v) (pad_stored l i p v)
+  unfolding pad_stored
   stored-alike i p v =
       record {
         size = h.size;
@@ -147,8 +147,8 @@ module _ (k l : Cells) (h : CellsAlike k l) where
         cells = there-stored k i p v ∙ (rw h.cells) ∙ sym (there-stored l i p v);
       }
 
-  effect-alike : (e : Effect) → CellsAlike (cellsAfter e k) (cellsAfter e l)
-  unfolding cellsAfter
+  effect-alike : (e : Effect) → CellsAlike (cells_after e k) (cells_after e l)
+  unfolding cells_after
   effect-alike Effect.Keep = h
   effect-alike (Effect.Forget tag) = forgotten-alike tag
   effect-alike (Effect.Reload r) = emptied-alike
@@ -156,14 +156,14 @@ module _ (k l : Cells) (h : CellsAlike k l) where
   effect-alike (Effect.StoreByte at v) = h
   effect-alike (Effect.StorePad i p v) = stored-alike i p v
 
-  cellOf-alike : (tag : ℕ) → cell_of k tag ≡ cell_of l tag
+  cell_of-alike : (tag : ℕ) → cell_of k tag ≡ cell_of l tag
   unfolding cell_of
-  cellOf-alike tag = ap (λ (x : List Cell). found_from 0 (map tagIn x) tag) h.cells
+  cell_of-alike tag = ap (λ (x : List Cell). found_from 0 (map tag_in x) tag) h.cells
 
   peeked-alike : (g : Associative) → peeked k g ≡ peeked l g
   unfolding peeked
   peeked-alike Associative.Ktmr = ap (λ (x : ℕ). x % 256 * 256) h.counter
-  peeked-alike (Associative.Pad i) = ap (λ (x : List Cell). (get_or x i emptyCell).word) h.cells
+  peeked-alike (Associative.Pad i) = ap (λ (x : List Cell). (get_or x i empty_cell).word) h.cells
 
 -- look-ups that give the same entry and leave cells that are alike
 record LookedAlike (a b : Looked) : Type 0 where
@@ -177,23 +177,23 @@ record RanAlike (a b : Ran) : Type 0 where
 
 module _ (m : Memory) (r : Maps) where
   looked-alike : (user : Bool) (p : ℕ) (k l : Cells) → CellsAlike k l → LookedAlike (looked m r user p k) (looked m r user p l)
-  unfolding looked soughtIn missed filledBy pick
-  looked-alike user p k l h = zero (execZero user p)
+  unfolding looked sought_in missed filled_by pick
+  looked-alike user p k l h = zero (exec_zero user p)
     where
-      by-walk : (w : Walk) → LookedAlike (missed k (tagOf user p) w) (missed l (tagOf user p) w)
-      by-walk (Walk.Finished w rs) = record { entry = refl; cells = filled-alike k l h (tagOf user p) w }
-      by-walk Walk.Off = record { entry = refl; cells = h }
+      by_walk : (w : Walk) → LookedAlike (missed k (tag_of user p) w) (missed l (tag_of user p) w)
+      by_walk (Walk.Finished w rs) = record { entry = refl; cells = filled-alike k l h (tag_of user p) w }
+      by_walk Walk.Off = record { entry = refl; cells = h }
 
-      sought : (f : Found) → LookedAlike (soughtIn m r user p k f) (soughtIn m r user p l f)
+      sought : (f : Found) → LookedAlike (sought_in m r user p k f) (sought_in m r user p l f)
       sought (Found.At i) = record { entry = rw h.cells; cells = h }
-      sought Found.Missing = by-walk (walk_of m r user p)
+      sought Found.Missing = by_walk (walk_of m r user p)
 
       zero : (t : Bool)
           → LookedAlike
-          (pick t (record { entry = execZeroEntry r; cells = k }) (soughtIn m r user p k (cell_of k (tagOf user p))))
-          (pick t (record { entry = execZeroEntry r; cells = l }) (soughtIn m r user p l (cell_of l (tagOf user p))))
+          (pick t (record { entry = exec_zero_entry r; cells = k }) (sought_in m r user p k (cell_of k (tag_of user p))))
+          (pick t (record { entry = exec_zero_entry r; cells = l }) (sought_in m r user p l (cell_of l (tag_of user p))))
       zero true = record { entry = refl; cells = h }
-      zero false = rw (cellOf-alike k l h (tagOf user p)) (sought (cell_of l (tagOf user p)))
+      zero false = rw (cell_of-alike k l h (tag_of user p)) (sought (cell_of l (tag_of user p)))
 
   run-alike : (p : Prog) (k l : Cells) → CellsAlike k l → RanAlike (run m r p k) (run m r p l)
   unfolding run
@@ -208,20 +208,20 @@ unfolding settled
 settled-alike m r r₁ a b e h =
     record {
       answer = ap (λ (o : Outcome). o.answer) h.outcome;
-      memory = ap (λ (o : Outcome). memoryAfter o.effect m) h.outcome;
+      memory = ap (λ (o : Outcome). memory_after o.effect m) h.outcome;
       units =
           record {
             core = ap (λ (o : Outcome). o.core) h.outcome;
-            maps = ap₂ (λ (o : Outcome) (x : Maps). mapsAfter o.effect x) h.outcome e;
+            maps = ap₂ (λ (o : Outcome) (x : Maps). maps_after o.effect x) h.outcome e;
             size = cells.size;
             counter = cells.counter;
             cells = cells.cells;
           };
     }
   where
-    cells : CellsAlike (cellsAfter a.outcome.effect a.cells) (cellsAfter b.outcome.effect b.cells)
+    cells : CellsAlike (cells_after a.outcome.effect a.cells) (cells_after b.outcome.effect b.cells)
     cells =
-        subst (λ (o : Outcome). CellsAlike (cellsAfter o.effect a.cells) (cellsAfter b.outcome.effect b.cells))
+        subst (λ (o : Outcome). CellsAlike (cells_after o.effect a.cells) (cells_after b.outcome.effect b.cells))
         (sym h.outcome) (effect-alike a.cells b.cells h.cells b.outcome.effect)
 
 pub absent-unseen : AbsentUnseen

@@ -2,59 +2,59 @@
 use Rattle.std.specs.Prelude.{ℕ, []}
 use Rattle.rules.specs.Types.{Core, Maps, Size, Cells, Unit, Call, Answer, Effect, Ran, Reply}
 use Rattle.rules.specs.Choice.{pick}
-use Rattle.rules.specs.Memory.{Memory, storeWord, storeByte}
-use Rattle.rules.specs.Unit.{emptied, initCore, zero_unit}
-use Rattle.rules.specs.Registers.{padStored}
+use Rattle.rules.specs.Memory.{Memory, store_word, store_byte}
+use Rattle.rules.specs.Unit.{emptied, init_core, zero_unit}
+use Rattle.rules.specs.Registers.{pad_stored}
 use Rattle.rules.specs.Maps.{forgotten}
-use Rattle.rules.specs.Sequences.{interrupted, trapped, vectorListed, idle}
+use Rattle.rules.specs.Sequences.{interrupted, trapped, vector_listed, idle}
 use Rattle.rules.specs.Program.{Prog, done, run}
 use Rattle.rules.specs.Order.{outcome, refused, sequenced, accessed}
 
 -- "Interrupt: ..", and 2 while waiting or in FCN 3
-unfoldable pub interruptOf : Core → Prog
-interruptOf c = pick (idle c.wait c.ktcs.fcn) (sequenced 0 (interrupted c)) (refused c Answer.NotDue)
+unfoldable pub interrupt_of : Core → Prog
+interrupt_of c = pick (idle c.wait c.ktcs.fcn) (sequenced 0 (interrupted c)) (refused c Answer.NotDue)
 
 -- "In every call 1 comes before 2"
-unfoldable pub trapOf : Core → ℕ → Prog
-trapOf c v =
-    pick (vectorListed v) (pick (idle c.wait c.ktcs.fcn) (sequenced 0 (trapped c v)) (refused c Answer.NotDue))
+unfoldable pub trap_of : Core → ℕ → Prog
+trap_of c v =
+    pick (vector_listed v) (pick (idle c.wait c.ktcs.fcn) (sequenced 0 (trapped c v)) (refused c Answer.NotDue))
     (refused c Answer.Misshapen)
 
 -- "INIT clears KTCS, the wait, the fetch memory and the cells, and sets the counter to 10o; other registers stay (H). It is always accepted."
-unfoldable pub initOf : Core → Maps → Prog
-initOf c r = done (outcome (Answer.Taken 0) (initCore c) (Effect.Reload r))
+unfoldable pub init_of : Core → Maps → Prog
+init_of c r = done (outcome (Answer.Taken 0) (init_core c) (Effect.Reload r))
 
 -- "Calls: access .., interrupt, trap (vector), INIT."
 unfoldable pub called : Memory → Size → Core → Maps → Call → Prog
 called m s c r (Call.Access q) = accessed m s c r q
-called m s c r Call.Interrupt = interruptOf c
-called m s c r (Call.Trap v) = trapOf c v
-called m s c r Call.Init = initOf c r
+called m s c r Call.Interrupt = interrupt_of c
+called m s c r (Call.Trap v) = trap_of c v
+called m s c r Call.Init = init_of c r
 
 -- What an effect does to the map registers, to the cells and to memory.
-unfoldable pub mapsAfter : Effect → Maps → Maps
-mapsAfter Effect.Keep r = r
-mapsAfter (Effect.Forget tag) r = r
-mapsAfter (Effect.Reload r₁) r = r₁
-mapsAfter (Effect.StoreWord at v) r = r
-mapsAfter (Effect.StoreByte at v) r = r
-mapsAfter (Effect.StorePad i p v) r = r
+unfoldable pub maps_after : Effect → Maps → Maps
+maps_after Effect.Keep r = r
+maps_after (Effect.Forget tag) r = r
+maps_after (Effect.Reload r₁) r = r₁
+maps_after (Effect.StoreWord at v) r = r
+maps_after (Effect.StoreByte at v) r = r
+maps_after (Effect.StorePad i p v) r = r
 
-unfoldable pub cellsAfter : Effect → Cells → Cells
-cellsAfter Effect.Keep k = k
-cellsAfter (Effect.Forget tag) k = forgotten k tag
-cellsAfter (Effect.Reload r₁) k = emptied k
-cellsAfter (Effect.StoreWord at v) k = k
-cellsAfter (Effect.StoreByte at v) k = k
-cellsAfter (Effect.StorePad i p v) k = padStored k i p v
+unfoldable pub cells_after : Effect → Cells → Cells
+cells_after Effect.Keep k = k
+cells_after (Effect.Forget tag) k = forgotten k tag
+cells_after (Effect.Reload r₁) k = emptied k
+cells_after (Effect.StoreWord at v) k = k
+cells_after (Effect.StoreByte at v) k = k
+cells_after (Effect.StorePad i p v) k = pad_stored k i p v
 
-unfoldable pub memoryAfter : Effect → Memory → Memory
-memoryAfter Effect.Keep m = m
-memoryAfter (Effect.Forget tag) m = m
-memoryAfter (Effect.Reload r₁) m = m
-memoryAfter (Effect.StoreWord at v) m = storeWord m at v
-memoryAfter (Effect.StoreByte at v) m = storeByte m at v
-memoryAfter (Effect.StorePad i p v) m = m
+unfoldable pub memory_after : Effect → Memory → Memory
+memory_after Effect.Keep m = m
+memory_after (Effect.Forget tag) m = m
+memory_after (Effect.Reload r₁) m = m
+memory_after (Effect.StoreWord at v) m = store_word m at v
+memory_after (Effect.StoreByte at v) m = store_byte m at v
+memory_after (Effect.StorePad i p v) m = m
 
 -- the answer with the unit, and memory, after a call
 pub record After : Type 0 where
@@ -71,11 +71,11 @@ settled m r d =
             unit =
                 record {
                   core = d.outcome.core;
-                  maps = mapsAfter d.outcome.effect r;
-                  cells = cellsAfter d.outcome.effect d.cells;
+                  maps = maps_after d.outcome.effect r;
+                  cells = cells_after d.outcome.effect d.cells;
                 };
           };
-      memory = memoryAfter d.outcome.effect m;
+      memory = memory_after d.outcome.effect m;
     }
 
 -- A call of the unit over lent memory: demand 2's answer, unit and memory.

@@ -20,7 +20,7 @@ run m r (peek g f) k = run m r (f (peeked k g)) k
 
 -- the unit with no cells of demand 3, "which walks the maps on every access"; it reads 0 in the
 -- places of the scratchpad words and of the counter, and the premises of demand 3 leave out the calls that ask for them
-unfoldable pub plainRun : Memory → Maps → Prog → Outcome
-plainRun m r (done o) = o
-plainRun m r (ask user p f) = plainRun m r (f (walked m r user p))
-plainRun m r (peek g f) = plainRun m r (f 0)
+unfoldable pub plain_run : Memory → Maps → Prog → Outcome
+plain_run m r (done o) = o
+plain_run m r (ask user p f) = plain_run m r (f (walked m r user p))
+plain_run m r (peek g f) = plain_run m r (f 0)

@@ -8,8 +8,8 @@ unfoldable pub bit_of : Bool → ℕ → ℕ
 bit_of b v = pick b v 0
 
 -- the bit whose value is v, out of a word
-unfoldable pub bitIn : ℕ → ℕ → Bool
-bitIn w v = eqb (w / v % 2) 1
+unfoldable pub bit_in : ℕ → ℕ → Bool
+bit_in w v = eqb (w / v % 2) 1
 
 -- "KTCS (H): FCN bits 1-0, SS 2, DS 3, UM 4, IU 5, RV 11, PV 12, WV 13, AV 14, IV 15; others read 0.": FCN by its
 -- two bits, every other field by its one
@@ -23,20 +23,20 @@ unfoldable pub unpacked : ℕ → Ktcs
 unpacked w =
     record {
       fcn = w % 4;
-      ss = bitIn w 0o4;
-      ds = bitIn w 0o10;
-      um = bitIn w 0o20;
-      iu = bitIn w 0o40;
-      rv = bitIn w 0o4000;
-      pv = bitIn w 0o10000;
-      wv = bitIn w 0o20000;
-      av = bitIn w 0o40000;
-      iv = bitIn w 0o100000;
+      ss = bit_in w 0o4;
+      ds = bit_in w 0o10;
+      um = bit_in w 0o20;
+      iu = bit_in w 0o40;
+      rv = bit_in w 0o4000;
+      pv = bit_in w 0o10000;
+      wv = bit_in w 0o20000;
+      av = bit_in w 0o40000;
+      iv = bit_in w 0o100000;
     }
 
 -- KTCS with FCN, UM and IU changed, and nothing else
-unfoldable pub withModes : Ktcs → ℕ → Bool → Bool → Ktcs
-withModes s fcn um iu =
+unfoldable pub with_modes : Ktcs → ℕ → Bool → Bool → Ktcs
+with_modes s fcn um iu =
     record {
       fcn = fcn;
       ss = s.ss;
@@ -51,8 +51,8 @@ withModes s fcn um iu =
     }
 
 -- with SS and DS changed
-unfoldable pub withStates : Ktcs → Bool → Bool → Ktcs
-withStates s ss ds =
+unfoldable pub with_states : Ktcs → Bool → Bool → Ktcs
+with_states s ss ds =
     record {
       fcn = s.fcn;
       ss = ss;
@@ -83,15 +83,15 @@ with_flags s rv pv wv av iv =
     }
 
 -- "if bits 15-11 are clear"
-unfoldable pub flagsClear : Ktcs → Bool
-flagsClear s = not (s.rv || s.pv || s.wv || s.av || s.iv)
+unfoldable pub flags_clear : Ktcs → Bool
+flags_clear s = not (s.rv || s.pv || s.wv || s.av || s.iv)
 
 -- FCN after a store: "a store that covers bits 1-0 sets FCN"
-unfoldable pub fcnStored : ℕ → Part → ℕ → ℕ
-fcnStored fcn Part.Whole v = v % 4
-fcnStored fcn Part.Low v = v % 4
-fcnStored fcn Part.High v = fcn
+unfoldable pub fcn_stored : ℕ → Part → ℕ → ℕ
+fcn_stored fcn Part.Whole v = v % 4
+fcn_stored fcn Part.Low v = v % 4
+fcn_stored fcn Part.High v = fcn
 
 -- "Any store into it, byte or word, clears IU and bits 15-11; a store that covers bits 1-0 sets FCN. Nothing else there is writable."
-unfoldable pub ktcsStored : Ktcs → Part → ℕ → Ktcs
-ktcsStored s p v = with_flags (withModes s (fcnStored s.fcn p v) s.um false) false false false false false
+unfoldable pub ktcs_stored : Ktcs → Part → ℕ → Ktcs
+ktcs_stored s p v = with_flags (with_modes s (fcn_stored s.fcn p v) s.um false) false false false false false

@@ -1,7 +1,7 @@
 // What the sequence accesses, an interrupt, a trap and INIT do to the core (01, "Sequences").
 ghost use Rattle.std.specs.Prelude.{◌≡◌};
-ghost use Rattle.rules.specs.Unit.{initCore};
-ghost use Rattle.rules.specs.Sequences.{statusStored, programCounterStored, firstReadDone, userStarted, interrupted, isTrap, trapTwice, trapTaken, trapped, vectorListed, idle};
+ghost use Rattle.rules.specs.Unit.{init_core};
+ghost use Rattle.rules.specs.Sequences.{status_stored, program_counter_stored, first_read_done, user_started, interrupted, is_trap, trap_twice, trap_taken, trapped, vector_listed, idle};
 
 use rules::{Core, Fetch, Found, Kind, Wait};
 
@@ -9,7 +9,7 @@ use rules::{Core, Fetch, Found, Kind, Wait};
 
 // "The first puts data in KTPS"
 pub fn status_stored(c: Core, v: u16) -> Core
-    ensures { result ≡ statusStored c v }
+    ensures { result ≡ status_stored c v }
 {
     let ktcs = c.ktcs;
     let old = c.kept;
@@ -25,7 +25,7 @@ pub fn status_stored(c: Core, v: u16) -> Core
 
 // "the second puts address in KTSP and data in KTPC"
 pub fn program_counter_stored(c: Core, a: u16, v: u16) -> Core
-    ensures { result ≡ programCounterStored c a v }
+    ensures { result ≡ program_counter_stored c a v }
 {
     let ktcs = c.ktcs;
     let old = c.kept;
@@ -47,7 +47,7 @@ pub fn program_counter_stored(c: Core, a: u16, v: u16) -> Core
 
 // After the first, the second is due.
 pub fn first_read_done(c: Core) -> Core
-    ensures { result ≡ firstReadDone c }
+    ensures { result ≡ first_read_done c }
 {
     let ktcs = c.ktcs;
     let kept = c.kept;
@@ -62,7 +62,7 @@ pub fn first_read_done(c: Core) -> Core
 
 // "the second sets UM, FCN 2 and clears fetch memory"
 pub fn user_started(c: Core) -> Core
-    ensures { result ≡ userStarted c }
+    ensures { result ≡ user_started c }
 {
     let ktcs = status::with_modes(c.ktcs, 2, true, c.ktcs.iu);
     let kept = c.kept;
@@ -93,7 +93,7 @@ pub fn interrupted(c: Core) -> Core
 }
 
 fn is_trap(k: Kind) -> bool
-    ensures { result ≡ isTrap k }
+    ensures { result ≡ is_trap k }
 {
     match k {
         Kind::Jsr => false,
@@ -108,14 +108,14 @@ fn is_trap(k: Kind) -> bool
 
 // Whether the last two fetched words are both TRAP.
 pub fn trap_twice(f: Fetch) -> bool
-    ensures { result ≡ trapTwice f }
+    ensures { result ≡ trap_twice f }
 {
     is_trap(kinds::kind_of(f.newer)) & is_trap(kinds::kind_of(f.older))
 }
 
 // "Trap from user mode: the same, except vector 34o when the last two fetched words are not both TRAP"
 pub fn trap_taken(c: Core, v: u64) -> bool
-    ensures { result ≡ trapTaken c v }
+    ensures { result ≡ trap_taken c v }
 {
     c.ktcs.um & !((v == 0o34) & !trap_twice(c.fetch))
 }
@@ -134,7 +134,7 @@ pub fn trapped(c: Core, v: u64) -> Core
 
 // A trap's shape: its vector is in the list.
 pub fn vector_listed(v: u64) -> bool
-    ensures { result ≡ vectorListed v }
+    ensures { result ≡ vector_listed v }
 {
     match registers::found(&rules::VECTORS, v as usize) {
         Found::At(_) => true,
@@ -156,7 +156,7 @@ pub fn idle(w: Wait, fcn: u16) -> bool
 
 // "INIT clears KTCS, the wait, the fetch memory ..; other registers stay (H)."
 pub fn init_core(c: Core) -> Core
-    ensures { result ≡ initCore c }
+    ensures { result ≡ init_core c }
 {
     let ktcs = status::clear_ktcs();
     let kept = c.kept;

@@ -1,7 +1,7 @@
 // Steps 1 and 2 of an access: whether it is well shaped, and what the wait says of it (01, "Order in one access").
 ghost use Rattle.std.specs.Prelude.{◌≡◌};
 ghost use Rattle.rules.specs.Choice.{pick};
-ghost use Rattle.rules.specs.Steps.{listed, wordDati, illFitting, wellShaped, serviceDato, startRead, dueWhen, dueOf};
+ghost use Rattle.rules.specs.Steps.{listed, word_dati, ill_fitting, well_shaped, service_dato, start_read, due_when, due_of};
 
 use rules::{Access, Core, Due, Wait};
 
@@ -15,14 +15,14 @@ fn listed(q: Access) -> bool
 }
 
 fn word_dati(q: Access) -> bool
-    ensures { result ≡ wordDati q }
+    ensures { result ≡ word_dati q }
 {
     (q.op == 0) & (q.width == 0)
 }
 
 // "DATO as byte, DATOB as word; FETCH not a word DATI"
 fn ill_fitting(q: Access) -> bool
-    ensures { result ≡ illFitting q }
+    ensures { result ≡ ill_fitting q }
 {
     ((q.op == 2) & (q.width == 1))
         | ((q.op == 3) & (q.width == 0))
@@ -31,7 +31,7 @@ fn ill_fitting(q: Access) -> bool
 
 // "1. Shape (answer 1)", with memory of this length.
 pub fn well_shaped(len: usize, q: Access) -> bool
-    ensures { result ≡ wellShaped len q }
+    ensures { result ≡ well_shaped len q }
 {
     listed(q) & !ill_fitting(q) & memory::good_length(len)
 }
@@ -40,14 +40,14 @@ pub fn well_shaped(len: usize, q: Access) -> bool
 
 // "the unit waits for two SERVICE DATOs"
 fn service_dato(q: Access) -> bool
-    ensures { result ≡ serviceDato q }
+    ensures { result ≡ service_dato q }
 {
     (q.op == 2) & (q.state == 4)
 }
 
 // "the next two accesses other than a fetch must be word DATIs"
 fn start_read(q: Access) -> bool
-    ensures { result ≡ startRead q }
+    ensures { result ≡ start_read q }
 {
     !fetched::is_fetch(q) & word_dati(q)
 }
@@ -61,14 +61,14 @@ fn due_if(comes: bool, due: Due) -> Due
 
 // The same for a SERVICE DATO.
 fn service_due(q: Access, due: Due) -> Due
-    ensures { result ≡ pick (serviceDato q) due Due.OutOfTurn }
+    ensures { result ≡ pick (service_dato q) due Due.OutOfTurn }
 {
     due_if(service_dato(q), due)
 }
 
 // Nothing is waited for: in FCN 3 the first START read is due, and "Fetches may come before the first".
 fn first_due(fcn: u16, q: Access) -> Due
-    ensures { result ≡ dueWhen Wait.Nothing fcn q }
+    ensures { result ≡ due_when Wait.Nothing fcn q }
 {
     if (fcn == 3) & !fetched::is_fetch(q) {
         due_if(start_read(q), Due::FirstRead)
@@ -79,7 +79,7 @@ fn first_due(fcn: u16, q: Access) -> Due
 
 // "2. The wait (2); a due sequence access ends here."
 pub fn due_of(c: Core, q: Access) -> Due
-    ensures { result ≡ dueOf c q }
+    ensures { result ≡ due_of c q }
 {
     let w = c.wait;
     match w {

@@ -1,12 +1,12 @@
 // How many cells a unit has: the number of each size, and the size that is made with a number (T-08).
 ghost use Rattle.std.specs.Prelude.{◌≤◌, ◌≡◌};
-ghost use Rattle.rules.specs.Unit.{countOf, size_of};
+ghost use Rattle.rules.specs.Unit.{count_of, size_of};
 
 use rules::{Making, Size};
 
 // How many cells a unit of this size has, and so how many of the scratchpad words in the table of registers.
 pub fn count_of(size: Size) -> usize
-    ensures { (result ≡ countOf size) × (result ≤ 24) }
+    ensures { (result ≡ count_of size) × (result ≤ 24) }
 {
     match size {
         Size::Eight => 8,

@@ -1,7 +1,7 @@
 // KTCS: its packing into 16 bits, its error flags, and what a store into it does (01, "Registers").
 ghost use Rattle.std.specs.Prelude.{◌≡◌, ◌+◌, ◌%◌, ◌≤◌, ◌<◌};
-ghost use Rattle.rules.specs.Unit.{clearKtcs};
-ghost use Rattle.rules.specs.Status.{bit_of, packed, unpacked, withModes, withStates, with_flags, flagsClear, fcnStored, ktcsStored};
+ghost use Rattle.rules.specs.Unit.{clear_ktcs};
+ghost use Rattle.rules.specs.Status.{bit_of, packed, unpacked, with_modes, with_states, with_flags, flags_clear, fcn_stored, ktcs_stored};
 
 use rules::{Ktcs, Part};
 
@@ -50,14 +50,14 @@ pub fn unpacked(w: u16) -> Ktcs
 
 // "if bits 15-11 are clear"
 pub fn flags_clear(s: Ktcs) -> bool
-    ensures { result ≡ flagsClear s }
+    ensures { result ≡ flags_clear s }
 {
     !(s.rv | s.pv | s.wv | s.av | s.iv)
 }
 
 // FCN, UM and IU changed, and nothing else.
 pub fn with_modes(s: Ktcs, fcn: u16, um: bool, iu: bool) -> Ktcs
-    ensures { result ≡ withModes s fcn um iu }
+    ensures { result ≡ with_modes s fcn um iu }
 {
     let mut t = s;
     t.fcn = fcn;
@@ -68,7 +68,7 @@ pub fn with_modes(s: Ktcs, fcn: u16, um: bool, iu: bool) -> Ktcs
 
 // SS and DS changed.
 pub fn with_states(s: Ktcs, ss: bool, ds: bool) -> Ktcs
-    ensures { result ≡ withStates s ss ds }
+    ensures { result ≡ with_states s ss ds }
 {
     let mut t = s;
     t.ss = ss;
@@ -91,7 +91,7 @@ pub fn with_flags(s: Ktcs, rv: bool, pv: bool, wv: bool, av: bool, iv: bool) -> 
 
 // "a store that covers bits 1-0 sets FCN"
 fn fcn_stored(fcn: u16, p: Part, v: u16) -> u16
-    ensures { result ≡ fcnStored fcn p v }
+    ensures { result ≡ fcn_stored fcn p v }
 {
     match p {
         Part::Whole => v % 4,
@@ -102,7 +102,7 @@ fn fcn_stored(fcn: u16, p: Part, v: u16) -> u16
 
 // "Any store into it, byte or word, clears IU and bits 15-11"
 pub fn ktcs_stored(s: Ktcs, p: Part, v: u16) -> Ktcs
-    ensures { result ≡ ktcsStored s p v }
+    ensures { result ≡ ktcs_stored s p v }
 {
     let fcn = fcn_stored(s.fcn, p, v);
     let kept = with_modes(s, fcn, s.um, false);
@@ -111,7 +111,7 @@ pub fn ktcs_stored(s: Ktcs, p: Part, v: u16) -> Ktcs
 
 // KTCS all zero, as INIT leaves it.
 pub fn clear_ktcs() -> Ktcs
-    ensures { result ≡ clearKtcs }
+    ensures { result ≡ clear_ktcs }
 {
     Ktcs {
         fcn: 0,

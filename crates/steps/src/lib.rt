@@ -1,6 +1,6 @@
 // The tests of steps 3 and 5 to 11 of an access, but for step 10, which is the register table's (01, "Order in one access").
 ghost use Rattle.std.specs.Prelude.{◌≡◌};
-ghost use Rattle.rules.specs.Steps.{oddWord, keysOf, judged, watches, publicPage, guarded, forbiddenBy, forbidden};
+ghost use Rattle.rules.specs.Steps.{odd_word, keys_of, judged, watches, public_page, guarded, forbidden_by, forbidden};
 
 use rules::{Access, Core, Entry, Fault, Fetch, Kind, Ruling};
 
@@ -8,7 +8,7 @@ use rules::{Access, Core, Entry, Fault, Fetch, Kind, Ruling};
 
 // "3. Unpaged odd word (3)." and "5. Paged odd word (4)."
 pub fn odd_word(width: u64, a: u16) -> bool
-    ensures { result ≡ oddWord width a }
+    ensures { result ≡ odd_word width a }
 {
     (width == 0) & (a % 2 == 1)
 }
@@ -17,7 +17,7 @@ pub fn odd_word(width: u64, a: u16) -> bool
 
 // "7. Residency (5). 8. Write key for operations 1-3 (6). 9. Privacy (7)."; `watched` says that privacy is asked.
 pub fn keys_of(op: u64, watched: bool, w: u16) -> Ruling
-    ensures { result ≡ keysOf op watched w }
+    ensures { result ≡ keys_of op watched w }
 {
     if !pages::resident_bit(w) {
         return Ruling::Refused(Fault::NotResident);
@@ -53,7 +53,7 @@ pub fn watches(f: Fetch, q: Access) -> bool
 
 // The page's public bit: "exec page 0 counts as private".
 pub fn public_page(e: Entry) -> bool
-    ensures { result ≡ publicPage e }
+    ensures { result ≡ public_page e }
 {
     match e {
         Entry::OffMap => false,
@@ -75,7 +75,7 @@ pub fn guarded(e: Entry) -> bool
 
 // A user's privileged word, and any but the entry point where the fetch goes from public to private.
 pub fn forbidden_by(k: Kind, user: bool, entering: bool) -> bool
-    ensures { result ≡ forbiddenBy k user entering }
+    ensures { result ≡ forbidden_by k user entering }
 {
     match k {
         Kind::Jsr => entering,

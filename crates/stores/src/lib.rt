@@ -1,12 +1,12 @@
 // What a store does to the core, and the effect that it leaves to be done to memory, the map registers or the cells.
 ghost use Rattle.std.specs.Prelude.{◌≡◌};
-ghost use Rattle.rules.specs.Order.{coreStored, operatingEffect, associativeEffect, memoryEffect};
+ghost use Rattle.rules.specs.Order.{core_stored, operating_effect, associative_effect, memory_effect};
 
 use rules::{Associative, Core, Effect, Maps, Operating, Part};
 
 // KTCS by its own rule, the six that remember by word and byte; the map registers are not of the core.
 pub fn core_stored(c: Core, p: Part, v: u16, g: Operating) -> Core
-    ensures { result ≡ coreStored c p v g }
+    ensures { result ≡ core_stored c p v g }
 {
     match g {
         Operating::Ktcs => {
@@ -30,7 +30,7 @@ pub fn core_stored(c: Core, p: Part, v: u16, g: Operating) -> Core
 
 // "A store into KTUM or KTEM, byte or word, empties all cells and sets the counter to 10o."
 pub fn operating_effect(r: Maps, p: Part, v: u16, g: Operating) -> Effect
-    ensures { result ≡ operatingEffect r p v g }
+    ensures { result ≡ operating_effect r p v g }
 {
     match g {
         Operating::Ktcs => Effect::Keep,
@@ -50,7 +50,7 @@ pub fn operating_effect(r: Maps, p: Part, v: u16, g: Operating) -> Effect
 
 // "stores into it [KTMR] are accepted and do nothing"; a scratchpad word takes its part.
 pub fn associative_effect(p: Part, v: u16, g: Associative) -> Effect
-    ensures { result ≡ associativeEffect p v g }
+    ensures { result ≡ associative_effect p v g }
 {
     match g {
         Associative::Ktmr => Effect::Keep,
@@ -60,7 +60,7 @@ pub fn associative_effect(p: Part, v: u16, g: Associative) -> Effect
 
 // "DATOB writes the low 8 bits of data."
 pub fn memory_effect(p: Part, at: usize, v: u16) -> Effect
-    ensures { result ≡ memoryEffect p at v }
+    ensures { result ≡ memory_effect p at v }
 {
     match p {
         Part::Whole => Effect::StoreWord(at, v),

@@ -21,21 +21,21 @@ unfoldable pub next : ℕ → ℕ
 next n = (n + 1) % 2 ^ 64
 
 -- a physical address as a row prints it: it has 18 bits
-unfoldable pub printedAs : Physical → Printed
-printedAs (Physical.At at) = Printed.At (at % 0o1000000)
-printedAs Physical.Nowhere = Printed.Dash
+unfoldable pub printed_as : Physical → Printed
+printed_as (Physical.At at) = Printed.At (at % 0o1000000)
+printed_as Physical.Nowhere = Printed.Dash
 
-unfoldable pub shownRow : ℕ → Returned → Ktcs → List ℕ
-shownRow call s k = row_of call s.number s.datum (printedAs s.physical) (packed k)
+unfoldable pub shown_row : ℕ → Returned → Ktcs → List ℕ
+shown_row call s k = row_of call s.number s.datum (printed_as s.physical) (packed k)
 
 -- "Each call prints its decimal number, answer, data, physical (six digits each, or `-`) and KTCS."
-unfoldable pub callRow : ℕ → Reply → List ℕ
-callRow call r = shownRow call (shown r.answer) r.unit.core.ktcs
+unfoldable pub call_row : ℕ → Reply → List ℕ
+call_row call r = shown_row call (shown r.answer) r.unit.core.ktcs
 
 -- a line that is no call is counted as a line alone
-unfoldable pub lineCounted : Bench → Bench
-lineCounted b = record { unit = b.unit; calls = b.calls; lines = next b.lines }
+unfoldable pub line_counted : Bench → Bench
+line_counted b = record { unit = b.unit; calls = b.calls; lines = next b.lines }
 
 -- a call is counted as both, refused or not
-unfoldable pub callCounted : Bench → Unit → Bench
-callCounted b u = record { unit = u; calls = next b.calls; lines = next b.lines }
+unfoldable pub call_counted : Bench → Unit → Bench
+call_counted b u = record { unit = u; calls = next b.calls; lines = next b.lines }

@@ -1,6 +1,6 @@
 // What the bench program counts, calls and lines, and the row of each call.
 ghost use Rattle.std.specs.Prelude.{◌≡◌};
-ghost use Rattle.tally.specs.Tally.{Holds, next, printedAs, callRow, lineCounted, callCounted};
+ghost use Rattle.tally.specs.Tally.{Holds, next, printed_as, call_row, line_counted, call_counted};
 
 use rowtext::Text;
 use rules::{Physical, Reply, Unit};
@@ -29,7 +29,7 @@ pub fn next(n: u64) -> u64
 
 // The cast loses nothing, since 18 bits are left.
 fn printed_as(p: Physical) -> rowtext::Printed
-    ensures { result ≡ printedAs p }
+    ensures { result ≡ printed_as p }
 {
     match p {
         Physical::At(at) => rowtext::Printed::At((at % 0o1000000) as u32),
@@ -39,7 +39,7 @@ fn printed_as(p: Physical) -> rowtext::Printed
 
 // A call's row.
 fn call_row(call: u64, reply: Reply) -> Text
-    ensures { Holds result (callRow call reply) }
+    ensures { Holds result (call_row call reply) }
 {
     let answer = reply.answer;
     let ktcs = reply.unit.core.ktcs;
@@ -56,8 +56,8 @@ fn call_row(call: u64, reply: Reply) -> Text
 
 // "call numbers count A, I, T and X, refused ones too"
 pub fn after_call(b: Bench, reply: Reply) -> Told
-    ensures bench { result.bench ≡ callCounted b reply.unit }
-    ensures text { Holds result.text (callRow (next b.calls) reply) }
+    ensures bench { result.bench ≡ call_counted b reply.unit }
+    ensures text { Holds result.text (call_row (next b.calls) reply) }
 {
     let unit = reply.unit;
     let calls = next(b.calls);
@@ -72,7 +72,7 @@ pub fn after_call(b: Bench, reply: Reply) -> Told
 
 // A line that is no call.
 pub fn after_line(b: Bench, text: Text) -> Told
-    ensures { (result.bench ≡ lineCounted b) × (result.text ≡ text) }
+    ensures { (result.bench ≡ line_counted b) × (result.text ≡ text) }
 {
     let unit = b.unit;
     let bench = Bench {

@@ -1,7 +1,7 @@
 // Reading at a target and storing there: what is done once all steps have passed.
 ghost use Rattle.std.specs.Prelude.{◌≡◌};
 ghost use Rattle.rules.specs.Program.{run};
-ghost use Rattle.rules.specs.Order.{sourceIn, wordFrom, wordRead, storedIn, stored_at, transferred};
+ghost use Rattle.rules.specs.Order.{source_in, word_from, word_read, stored_in, stored_at, transferred};
 
 use rules::{Answer, Cells, Core, Effect, Job, Maps, Outcome, Part, Ran, Register, Target};
 
@@ -17,7 +17,7 @@ pub fn ended(o: Outcome, k: Cells) -> Ran
 
 // What a read of a register gives: the cells answer for it, or the rest of the unit.
 pub fn word_in(c: Core, maps: Maps, k: Cells, g: Register) -> u16
-    ensures { result ≡ wordFrom k (sourceIn c maps g) }
+    ensures { result ≡ word_from k (source_in c maps g) }
 {
     match g {
         Register::Operating(o) => registers::operating_word(c, maps, o),
@@ -27,7 +27,7 @@ pub fn word_in(c: Core, maps: Maps, k: Cells, g: Register) -> u16
 
 // "Reads give the whole word at the even address."
 pub fn word_read(m: &[u8], j: Job, k: Cells, at: usize, t: Target) -> u16
-    ensures { result ≡ wordRead m.now j k at t }
+    ensures { result ≡ word_read m.now j k at t }
 {
     match t {
         Target::Memory => memory::word_at(m, memory::even_of(at)),
@@ -37,7 +37,7 @@ pub fn word_read(m: &[u8], j: Job, k: Cells, at: usize, t: Target) -> u16
 
 // A store into a register.
 fn stored_in(j: Job, p: Part, at: usize, g: Register) -> Outcome
-    ensures { result ≡ storedIn j p at g }
+    ensures { result ≡ stored_in j p at g }
 {
     let c = j.core;
     let v = j.q.datum;

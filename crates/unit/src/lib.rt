@@ -3,7 +3,7 @@ ghost use Rattle.std.specs.Prelude.{◌≡◌};
 ghost use Rattle.rules.specs.Memory.{Memory};
 ghost use Rattle.rules.specs.Program.{done};
 ghost use Rattle.rules.specs.Unit.{zero_unit};
-ghost use Rattle.rules.specs.Calls.{interruptOf, trapOf, initOf, mapsAfter, cellsAfter, memoryAfter, settled, call_of, fresh};
+ghost use Rattle.rules.specs.Calls.{interrupt_of, trap_of, init_of, maps_after, cells_after, memory_after, settled, call_of, fresh};
 
 use rules::{
     Access, Answer, Call, Cell, Cells, Core, Effect, KEPT, Maps, Outcome, ROOM, Ran, Reply, Size,
@@ -11,7 +11,7 @@ use rules::{
 };
 
 fn interrupt_of(c: Core) -> Outcome
-    ensures { done result ≡ interruptOf c }
+    ensures { done result ≡ interrupt_of c }
 {
     let w = c.wait;
     if sequences::idle(w, c.ktcs.fcn) {
@@ -22,7 +22,7 @@ fn interrupt_of(c: Core) -> Outcome
 
 // "In every call 1 comes before 2"
 fn trap_of(c: Core, v: u64) -> Outcome
-    ensures { done result ≡ trapOf c v }
+    ensures { done result ≡ trap_of c v }
 {
     if sequences::vector_listed(v) {
         let w = c.wait;
@@ -35,7 +35,7 @@ fn trap_of(c: Core, v: u64) -> Outcome
 }
 
 fn init_of(c: Core, r: Maps) -> Outcome
-    ensures { done result ≡ initOf c r }
+    ensures { done result ≡ init_of c r }
 {
     Outcome {
         answer: Answer::Taken(0),
@@ -45,7 +45,7 @@ fn init_of(c: Core, r: Maps) -> Outcome
 }
 
 fn maps_after(e: Effect, r: Maps) -> Maps
-    ensures { result ≡ mapsAfter e r }
+    ensures { result ≡ maps_after e r }
 {
     match e {
         Effect::Keep => r,
@@ -58,7 +58,7 @@ fn maps_after(e: Effect, r: Maps) -> Maps
 }
 
 fn cells_after(e: Effect, k: Cells) -> Cells
-    ensures { result ≡ cellsAfter e k }
+    ensures { result ≡ cells_after e k }
 {
     match e {
         Effect::Keep => k,
@@ -72,7 +72,7 @@ fn cells_after(e: Effect, k: Cells) -> Cells
 
 // What an effect does to memory.
 pub fn store(m: &mut [u8], e: Effect)
-    ensures { m.new ≡ memoryAfter e m.old }
+    ensures { m.new ≡ memory_after e m.old }
 {
     match e {
         Effect::Keep => {}

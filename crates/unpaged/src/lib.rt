@@ -1,13 +1,13 @@
 // The unpaged access: step 3, step 4, and step 10 at the address as it stands.
 ghost use Rattle.std.specs.Prelude.{◌≡◌};
 ghost use Rattle.rules.specs.Program.{run};
-ghost use Rattle.rules.specs.Order.{unpagedReached, unpagedTarget, unpagedFrom};
+ghost use Rattle.rules.specs.Order.{unpaged_reached, unpaged_target, unpaged_from};
 
 use rules::{Access, Answer, Cells, Core, Job, Maps, Place, Ran, Target};
 
 // A target that is there. A fetch keeps the public flag, which moves "only in normal paging".
 fn unpaged_reached(m: &[u8], j: Job, at: usize, t: Target, k: Cells) -> Ran
-    ensures { result ≡ run m.now j.maps (unpagedReached m.now j at t) k }
+    ensures { result ≡ run m.now j.maps (unpaged_reached m.now j at t) k }
 {
     let q = j.q;
     if fetched::is_fetch(q) {
@@ -19,7 +19,7 @@ fn unpaged_reached(m: &[u8], j: Job, at: usize, t: Target, k: Cells) -> Ran
 
 // "10. Target at or beyond L and not a register above (9)."; the window unpaged is a time-out.
 fn unpaged_target(m: &[u8], j: Job, at: usize, pl: Place, k: Cells) -> Ran
-    ensures { result ≡ run m.now j.maps (unpagedTarget m.now j at pl) k }
+    ensures { result ≡ run m.now j.maps (unpaged_target m.now j at pl) k }
 {
     match pl {
         Place::There(t) => unpaged_reached(m, j, at, t, k),
@@ -30,7 +30,7 @@ fn unpaged_target(m: &[u8], j: Job, at: usize, pl: Place, k: Cells) -> Ran
 
 // "3. Unpaged odd word (3).", then step 4.
 pub fn unpaged_from(m: &[u8], c: Core, r: Maps, q: Access, k: Cells) -> Ran
-    ensures { result ≡ run m.now r (unpagedFrom m.now k.size c r q) k }
+    ensures { result ≡ run m.now r (unpaged_from m.now k.size c r q) k }
 {
     if steps::odd_word(q.width, q.addr) {
         return transfer::ended(endings::refused(c, Answer::UnpagedOdd), k);

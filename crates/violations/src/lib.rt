@@ -1,13 +1,13 @@
 // What answers 4 to 10 do to the core: the flag, KTAD and KTDT, and the wait for SERVICE (01, "Sequences").
 ghost use Rattle.std.specs.Prelude.{◌≡◌, eqb};
 ghost use Rattle.rules.specs.Choice.{pick};
-ghost use Rattle.rules.specs.Sequences.{serviceAwaited, flagged, startEnded, dataLines, faultData, addressKept, linesKept, violated, timedOut};
+ghost use Rattle.rules.specs.Sequences.{service_awaited, flagged, start_ended, data_lines, fault_data, address_kept, lines_kept, violated, timed_out};
 
 use rules::{Access, Core, Fault, KEPT, Ktcs, Wait};
 
 // What a violation, an interrupt and a trap share: "IU takes UM; UM clears; .. fetch memory clears; the unit waits for two SERVICE DATOs."
 pub fn service_awaited(s: Ktcs, kept: [u16; KEPT]) -> Core
-    ensures { result ≡ serviceAwaited s kept }
+    ensures { result ≡ service_awaited s kept }
 {
     let ktcs = status::with_modes(s, s.fcn, false, s.um);
     let fetch = fetched::clear_fetch();
@@ -42,21 +42,21 @@ fn fcn_ended(fcn: u16) -> u16
 
 // "FCN 3 becomes 2"
 pub fn start_ended(s: Ktcs) -> Ktcs
-    ensures { result ≡ startEnded s }
+    ensures { result ≡ start_ended s }
 {
     status::with_modes(s, fcn_ended(s.fcn), s.um, s.iu)
 }
 
 // What the data lines carry: "the store's data .. else 0"; DATO and DATOB are operations 2 and 3.
 pub fn data_lines(q: Access) -> u16
-    ensures { result ≡ dataLines q }
+    ensures { result ≡ data_lines q }
 {
     if q.op < 2 { 0 } else { q.datum }
 }
 
 // "KTDT the store's data or, for 8, the fetched word, else 0"
 pub fn fault_data(q: Access, f: Fault) -> u16
-    ensures { result ≡ faultData q f }
+    ensures { result ≡ fault_data q f }
 {
     let lines = data_lines(q);
     match f {
@@ -72,7 +72,7 @@ pub fn fault_data(q: Access, f: Fault) -> u16
 
 // "KTAD takes the virtual address (for the inner window access KTAD stays)"
 pub fn address_kept(kept: [u16; KEPT], inner: bool, a: u16) -> [u16; KEPT]
-    ensures { result ≡ addressKept kept inner a }
+    ensures { result ≡ address_kept kept inner a }
 {
     if inner {
         kept
@@ -83,7 +83,7 @@ pub fn address_kept(kept: [u16; KEPT], inner: bool, a: u16) -> [u16; KEPT]
 
 // KTAD and KTDT after a refusal.
 pub fn lines_kept(kept: [u16; KEPT], inner: bool, a: u16, d: u16) -> [u16; KEPT]
-    ensures { result ≡ linesKept kept inner a d }
+    ensures { result ≡ lines_kept kept inner a d }
 {
     registers::kept_stored(address_kept(kept, inner, a), registers::KTDT, d)
 }
@@ -99,7 +99,7 @@ pub fn violated(c: Core, q: Access, inner: bool, f: Fault) -> Core
 
 // An unpaged 9: "unpaged: step 4, KTAD, KTDT".
 pub fn timed_out(c: Core, q: Access) -> Core
-    ensures { result ≡ timedOut c q }
+    ensures { result ≡ timed_out c q }
 {
     let kept = c.kept;
     let lines = lines_kept(kept, false, q.addr, data_lines(q));

@@ -6,5 +6,5 @@ use Rattle.rules.specs.Calls.{fresh}
 abbrev pub eight : Unit
 eight = fresh Size.Eight
 
-abbrev pub twentyFour : Unit
-twentyFour = fresh Size.TwentyFour
+abbrev pub twenty_four : Unit
+twenty_four = fresh Size.TwentyFour

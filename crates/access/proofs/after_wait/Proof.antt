@@ -1,5 +1,5 @@
 -- `access::after_wait` meets its contract.
-use Rattle.rules.specs.Order.{afterWait}
+use Rattle.rules.specs.Order.{after_wait}
 use Rattle.rules.proofs.Laws.RunLaws.{run-done}
 use mathlib.Core.Path.{sym}
 use borrow.Author.Rules.{rules}
@@ -76,27 +76,27 @@ ended-requires-5 : tie.Need-ended-requires-5
 ended-requires-5 c κs = search rules
 
 returns : tie.Need-returns
-unfolding afterWait
+unfolding after_wait
 returns c = simp (sym c.stepped.ensures, c.before.enum_told.given.1)
 
 returns-2 : tie.Need-returns-2
-unfolding afterWait
+unfolding after_wait
 returns-2 c = simp (run-done, c.ended.ensures, sym c.before.refused.ensures, c.before.before.enum-told2.given.1)
 
 returns-3 : tie.Need-returns-3
-unfolding afterWait
-returns-3 c = simp (run-done, c.ended2.ensures, sym c.before.sequenced.ensures, sym c.before.before.status-stored.ensures, c.before.before.before.enum-told3.given.1)
+unfolding after_wait
+returns-3 c = simp (run-done, c.ended2.ensures, sym c.before.sequenced.ensures, sym c.before.before.stored_status.ensures, c.before.before.before.enum-told3.given.1)
 
 returns-4 : tie.Need-returns-4
-unfolding afterWait
-returns-4 c = simp (run-done, c.ended3.ensures, sym c.before.sequenced2.ensures, sym c.before.before.program-counter-stored.ensures, c.before.before.before.enum-told4.given.1)
+unfolding after_wait
+returns-4 c = simp (run-done, c.ended3.ensures, sym c.before.sequenced2.ensures, sym c.before.before.stored_program_counter.ensures, c.before.before.before.enum-told4.given.1)
 
 returns-5 : tie.Need-returns-5
-unfolding afterWait
+unfolding after_wait
 returns-5 c = simp (run-done, c.ended4.ensures, sym c.before.sequenced3.ensures, sym c.before.before.first-read-done.ensures, sym c.before.before.before.kept_word.ensures, c.before.before.before.before.enum-told5.given.1)
 
 returns-6 : tie.Need-returns-6
-unfolding afterWait
+unfolding after_wait
 returns-6 c = simp (run-done, c.ended5.ensures, sym c.before.sequenced4.ensures, sym c.before.before.user-started.ensures, sym c.before.before.before.kept-word2.ensures, c.before.before.before.before.enum-told6.given.1)
 
 pub after-wait-spec : {M : Type 1} → statement M

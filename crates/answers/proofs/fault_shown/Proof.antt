@@ -1,5 +1,5 @@
 -- `answers::fault_shown` meets its contract.
-use Rattle.rules.specs.Answers.{faultShown, shownAs}
+use Rattle.rules.specs.Answers.{fault_shown, shown_as}
 use mathlib.Core.Path.{sym}
 use borrow.Author.Rules.{rules}
 use Rattle.answers.proofs.fault_shown.Statement.{statement}
@@ -45,31 +45,31 @@ enum-known-f : tie.Need-enum-known-f
 enum-known-f c = search rules
 
 returns : tie.Need-returns
-unfolding faultShown shownAs
+unfolding fault_shown shown_as
 returns c = simp (sym c.bare.ensures, c.before.enum_told.given.1)
 
 returns-2 : tie.Need-returns-2
-unfolding faultShown shownAs
+unfolding fault_shown shown_as
 returns-2 c = simp (sym c.bare2.ensures, c.before.enum-told2.given.1)
 
 returns-3 : tie.Need-returns-3
-unfolding faultShown shownAs
+unfolding fault_shown shown_as
 returns-3 c = simp (sym c.bare3.ensures, c.before.enum-told3.given.1)
 
 returns-4 : tie.Need-returns-4
-unfolding faultShown shownAs
+unfolding fault_shown shown_as
 returns-4 c = simp (sym c.bare4.ensures, c.before.enum-told4.given.1)
 
 returns-5 : tie.Need-returns-5
-unfolding faultShown shownAs
+unfolding fault_shown shown_as
 returns-5 c = simp (sym c.bare5.ensures, c.before.enum-told5.given.1)
 
 returns-6 : tie.Need-returns-6
-unfolding faultShown shownAs
+unfolding fault_shown shown_as
 returns-6 c = simp (sym c.bare6.ensures, c.before.enum-told6.given.1)
 
 returns-7 : tie.Need-returns-7
-unfolding faultShown shownAs
+unfolding fault_shown shown_as
 returns-7 c = simp c.before.f.given.1
 
 pub fault-shown-spec : {M : Type 1} → statement M

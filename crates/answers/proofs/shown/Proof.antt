@@ -1,5 +1,5 @@
 -- `answers::shown` meets its contract.
-use Rattle.rules.specs.Answers.{shown, shownAs}
+use Rattle.rules.specs.Answers.{shown, shown_as}
 use mathlib.Core.Path.{sym}
 use borrow.Author.Rules.{rules}
 use Rattle.answers.proofs.shown.Statement.{statement}
@@ -36,27 +36,27 @@ fault-shown-requires : tie.Need-fault-shown-requires
 fault-shown-requires c κs = search rules
 
 returns : tie.Need-returns
-unfolding shown shownAs
+unfolding shown shown_as
 returns c = simp c.before.a.given.1
 
 returns-2 : tie.Need-returns-2
-unfolding shown shownAs
+unfolding shown shown_as
 returns-2 c = simp c.before.a2.given.1
 
 returns-3 : tie.Need-returns-3
-unfolding shown shownAs
+unfolding shown shown_as
 returns-3 c = simp (sym c.bare.ensures, c.before.enum_told.given.1)
 
 returns-4 : tie.Need-returns-4
-unfolding shown shownAs
+unfolding shown shown_as
 returns-4 c = simp (sym c.bare2.ensures, c.before.enum-told2.given.1)
 
 returns-5 : tie.Need-returns-5
-unfolding shown shownAs
+unfolding shown shown_as
 returns-5 c = simp (sym c.bare3.ensures, c.before.enum-told3.given.1)
 
 returns-6 : tie.Need-returns-6
-unfolding shown shownAs
+unfolding shown shown_as
 returns-6 c = simp (sym c.fault-shown.ensures, c.before.before.a3.given.1)
 
 pub shown-spec : {M : Type 1} → statement M

@@ -1,7 +1,7 @@
 -- `arguments::by_count` meets its contract.
 use mathlib.Core.Path.{sym}
 use borrow.Author.Rules.{rules}
-use Rattle.arguments.specs.Asked.{byCount}
+use Rattle.arguments.specs.Asked.{by_count}
 use Rattle.arguments.proofs.by_count.Statement.{statement}
 use Rattle.arguments.proofs.by_count.Tie as tie
 
@@ -15,11 +15,11 @@ enum_told : tie.Need-enum-told
 enum_told c = search rules
 
 returns : tie.Need-returns
-unfolding byCount
+unfolding by_count
 returns c = simp (sym c.type_size.ensures, c.before.before.count.given.1)
 
 returns-2 : tie.Need-returns-2
-unfolding byCount
+unfolding by_count
 returns-2 c = simp c.enum_told.given.1
 
 pub by-count-spec : {M : Type 1} → statement M

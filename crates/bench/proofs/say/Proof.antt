@@ -9,8 +9,8 @@ use Rattle.bench.proofs.say.Statement.{statement}
 use Rattle.bench.proofs.say.Tie as tie
 
 -- an array in a struct, as owning the struct tells of its length
-field-size : (l : List ℕ) → length (map (λ (v : ℕ). v) l) ≡ 64 → length l ≡ 64
-field-size l e = sym (length-map l (λ (v : ℕ). v)) ∙ e
+field_size : (l : List ℕ) → length (map (λ (v : ℕ). v) l) ≡ 64 → length l ≡ 64
+field_size l e = sym (length-map l (λ (v : ℕ). v)) ∙ e
 
 sub-write : tie.Need-overflow-sub-write
 sub-write c = search rules
@@ -21,7 +21,7 @@ part-write-start c = search rules
 part-write-end : tie.Need-slice-bounds-write-end
 part-write-end c =
     let size : length c.before.before.before.args.t.bytes ≡ 64 =
-    field-size c.before.before.before.args.t.bytes c.before.before.before.well-formed.0.1.1.0.1.0.1
+    field_size c.before.before.before.args.t.bytes c.before.before.before.well-formed.0.1.1.0.1.0.1
     in
     omega arith
 

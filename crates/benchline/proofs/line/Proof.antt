@@ -1,8 +1,8 @@
 -- `benchline::line` meets its contract.
 use mathlib.Core.Path.{sym, ap, ◌∙◌}
-use Rattle.rules.proofs.Demand1.Interrupts.{interrupt-leaves, trap-leaves, init-leaves}
+use Rattle.rules.proofs.Demand1.Interrupts.{interrupt_leaves, trap_leaves, init_leaves}
 use Rattle.rowtext.specs.Written.{shown}
-use Rattle.benchline.specs.Bench.{callDone, lineDone}
+use Rattle.benchline.specs.Bench.{call_done, line_done}
 use borrow.Author.Rules.{rules}
 use Rattle.benchline.proofs.line.Statement.{statement}
 use Rattle.benchline.proofs.line.Tie as tie
@@ -80,30 +80,30 @@ same_length : tie.Need-same-length
 same_length c = search rules
 
 returns : tie.Need-returns
-unfolding lineDone
+unfolding line_done
 returns c = (c.after_Line.ensures.0 ∙ simp c.before.before.before.before.before.before.before.asks.given.1, (c.before.before.before.before.Store-word.ensures ∙ simp c.before.before.before.before.before.before.before.asks.given.1, (simp (c.after_Line.ensures.1, ap shown c.before.empty.ensures.0, c.before.before.before.before.before.before.before.asks.given.1), rw c.after_Line.ensures.1 c.before.empty.ensures.1.within)))
 
 same-length-2 : tie.Need-same-length-2
 same-length-2 c = search rules
 
 returns-2 : tie.Need-returns-2
-unfolding lineDone callDone
+unfolding line_done call_done
 returns-2 c = (c.after_call.ensures.0 ∙ simp (c.before.before.before.access.ensures.0, c.before.before.before.before.access-in.ensures, c.before.before.before.before.before.before.before.asks2.given.1), (c.before.before.before.access.ensures.1 ∙ simp (c.before.before.before.before.access-in.ensures, c.before.before.before.before.before.before.before.asks2.given.1), (c.after_call.ensures.1.0 ∙ simp (c.before.before.before.access.ensures.0, c.before.before.before.before.access-in.ensures, c.before.before.before.before.before.before.before.asks2.given.1), c.after_call.ensures.1.1)))
 
 returns-3 : tie.Need-returns-3
-unfolding lineDone callDone
-returns-3 c = (c.after-call2.ensures.0 ∙ simp (c.before.interrupt.ensures c.before.before.before.before.before.before.args.m.now, c.before.before.enum_told.given.1), (sym (simp c.before.before.enum_told.given.1 (interrupt-leaves c.before.before.before.before.before.before.args.m.now c.before.before.before.before.before.before.args.b.unit).memory), (c.after-call2.ensures.1.0 ∙ simp (c.before.interrupt.ensures c.before.before.before.before.before.before.args.m.now, c.before.before.enum_told.given.1), c.after-call2.ensures.1.1)))
+unfolding line_done call_done
+returns-3 c = (c.after-call2.ensures.0 ∙ simp (c.before.interrupt.ensures c.before.before.before.before.before.before.args.m.now, c.before.before.enum_told.given.1), (sym (simp c.before.before.enum_told.given.1 (interrupt_leaves c.before.before.before.before.before.before.args.m.now c.before.before.before.before.before.before.args.b.unit).memory), (c.after-call2.ensures.1.0 ∙ simp (c.before.interrupt.ensures c.before.before.before.before.before.before.args.m.now, c.before.before.enum_told.given.1), c.after-call2.ensures.1.1)))
 
 returns-4 : tie.Need-returns-4
-unfolding lineDone callDone
-returns-4 c = (c.after-call3.ensures.0 ∙ simp (c.before.trap.ensures c.before.before.before.before.before.before.before.args.m.now, c.before.before.before.asks3.given.1), (sym (simp c.before.before.before.asks3.given.1 (trap-leaves c.before.before.before.before.before.before.before.args.m.now c.before.before.before.before.before.before.before.args.b.unit _).memory), (c.after-call3.ensures.1.0 ∙ simp (c.before.trap.ensures c.before.before.before.before.before.before.before.args.m.now, c.before.before.before.asks3.given.1), c.after-call3.ensures.1.1)))
+unfolding line_done call_done
+returns-4 c = (c.after-call3.ensures.0 ∙ simp (c.before.trap.ensures c.before.before.before.before.before.before.before.args.m.now, c.before.before.before.asks3.given.1), (sym (simp c.before.before.before.asks3.given.1 (trap_leaves c.before.before.before.before.before.before.before.args.m.now c.before.before.before.before.before.before.before.args.b.unit _).memory), (c.after-call3.ensures.1.0 ∙ simp (c.before.trap.ensures c.before.before.before.before.before.before.before.args.m.now, c.before.before.before.asks3.given.1), c.after-call3.ensures.1.1)))
 
 returns-5 : tie.Need-returns-5
-unfolding lineDone callDone
-returns-5 c = (c.after-call4.ensures.0 ∙ simp (c.before.init.ensures c.before.before.before.before.before.before.args.m.now, c.before.before.enum-told2.given.1), (sym (simp c.before.before.enum-told2.given.1 (init-leaves c.before.before.before.before.before.before.args.m.now c.before.before.before.before.before.before.args.b.unit).memory), (c.after-call4.ensures.1.0 ∙ simp (c.before.init.ensures c.before.before.before.before.before.before.args.m.now, c.before.before.enum-told2.given.1), c.after-call4.ensures.1.1)))
+unfolding line_done call_done
+returns-5 c = (c.after-call4.ensures.0 ∙ simp (c.before.init.ensures c.before.before.before.before.before.before.args.m.now, c.before.before.enum-told2.given.1), (sym (simp c.before.before.enum-told2.given.1 (init_leaves c.before.before.before.before.before.before.args.m.now c.before.before.before.before.before.before.args.b.unit).memory), (c.after-call4.ensures.1.0 ∙ simp (c.before.init.ensures c.before.before.before.before.before.before.args.m.now, c.before.before.enum-told2.given.1), c.after-call4.ensures.1.1)))
 
 returns-6 : tie.Need-returns-6
-unfolding lineDone
+unfolding line_done
 returns-6 c = (c.after-line2.ensures.0 ∙ simp c.before.before.before.enum-told3.given.1, (simp c.before.before.before.enum-told3.given.1, (simp (c.after-line2.ensures.1, c.before.bad-line.ensures.0, c.before.before.next.ensures, c.before.before.before.enum-told3.given.1), rw c.after-line2.ensures.1 c.before.bad-line.ensures.1)))
 
 pub line-spec : {M : Type 1} → statement M

@@ -1,7 +1,7 @@
 -- `benchwork::start` meets its contract.
 use mathlib.Core.Path.{sym}
-use Rattle.benchwork.specs.Whole.{freshBench}
-use Rattle.benchwork.specs.Bytes.{freshProgress}
+use Rattle.benchwork.specs.Whole.{fresh_bench}
+use Rattle.benchwork.specs.Bytes.{fresh_progress}
 use borrow.Author.Rules.{rules}
 use Rattle.benchwork.proofs.start.Statement.{statement}
 use Rattle.benchwork.proofs.start.Tie as tie
@@ -13,7 +13,7 @@ nothing-requires : tie.Need-nothing-requires
 nothing-requires c κs = search rules
 
 returns : tie.Need-returns
-unfolding freshProgress freshBench
+unfolding fresh_progress fresh_bench
 returns c = simp (sym c.nothing.ensures, sym c.before.fresh.ensures)
 
 pub start_spec : {M : Type 1} → statement M

@@ -4,16 +4,16 @@ use mathlib.Core.Path.{◌≡◌, ◌∙◌, sym}
 use mathlib.Core.List.{map}
 use borrow.Author.Rules.{rules}
 use lib.ListN.{length}
-use Rattle.rules.specs.Unit.{emptyCell}
-use Rattle.rules.specs.Maps.{cellForgotten}
-use Rattle.cells.proofs.Laws.{changing, changed-here, changed-all}
+use Rattle.rules.specs.Unit.{empty_cell}
+use Rattle.rules.specs.Maps.{cell_forgotten}
+use Rattle.cells.proofs.Laws.{changing, changed_here, changed_all}
 use Rattle.cells.proofs.list_forgotten.Statement.{statement}
 use Rattle.cells.proofs.list_forgotten.Tie as tie
 
 abbrev invariant-loop : tie.invariant-loop
 invariant-loop tag list₀ i₀ list i =
     (i ≤ length list₀) × (length list ≡ length list₀)
-    × (changing (cellForgotten tag) list i ≡ map (cellForgotten tag) list₀)
+    × (changing (cell_forgotten tag) list i ≡ map (cell_forgotten tag) list₀)
 
 abbrev decreases-loop : tie.decreases-loop
 decreases-loop tag list₀ i₀ list i = length list₀ - i
@@ -43,16 +43,16 @@ loop-less : tie.Need-loop-smaller invariant-loop decreases-loop
 loop-less c = search rules
 
 loop-again : tie.Need-loop-preserved invariant-loop decreases-loop
-unfolding emptyCell
+unfolding empty_cell
 loop-again c = (
   search rules,
   search rules,
-  rw c.cell-forgotten.ensures
-      (changed-here _ c.before.before.before.loop.list c.before.before.before.loop.i (search rules) ∙ c.before.before.before.loop.invariant.2),
+  rw c.cell_at-forgotten.ensures
+      (changed_here _ c.before.before.before.loop.list c.before.before.before.loop.i (search rules) ∙ c.before.before.before.loop.invariant.2),
 )
 
 returns : tie.Need-returns invariant-loop decreases-loop
-returns c = sym (changed-all _ c.before.loop.list c.before.loop.i (search rules)) ∙ c.before.loop.invariant.2
+returns c = sym (changed_all _ c.before.loop.list c.before.loop.i (search rules)) ∙ c.before.loop.invariant.2
 
 pub list-forgotten-spec : {M : Type 1} → statement M
 list-forgotten-spec =

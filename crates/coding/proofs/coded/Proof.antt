@@ -1,5 +1,5 @@
 -- `coding::coded` meets its contract.
-use Rattle.coding.specs.Coding.{coreWords, coded}
+use Rattle.coding.specs.Coding.{core_words, coded}
 use borrow.Author.Rules.{rules}
 use Rattle.coding.proofs.coded.Statement.{statement}
 use Rattle.coding.proofs.coded.Tie as tie
@@ -11,7 +11,7 @@ with-cells-requires : tie.Need-with-cells-requires
 with-cells-requires c κs = search rules
 
 returns : tie.Need-returns
-unfolding coded coreWords
+unfolding coded core_words
 returns c = rw c.before.with-core.ensures.0 at c.with-cells.ensures
 
 pub coded-spec : {M : Type 1} → statement M

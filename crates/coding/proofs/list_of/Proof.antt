@@ -4,14 +4,14 @@ use mathlib.Core.Path.{◌≡◌, ◌∙◌, sym}
 use lib.ListN.{length}
 use borrow.Author.Rules.{rules}
 use Rattle.rules.specs.Unit.{room}
-use Rattle.coding.specs.Coding.{tagsPlace, wordsPlace, list_of}
+use Rattle.coding.specs.Coding.{tags_place, words_place, list_of}
 use Rattle.coding.proofs.Passes.{reading, read_here, read_all}
 use Rattle.coding.proofs.list_of.Statement.{statement}
 use Rattle.coding.proofs.list_of.Tie as tie
 
 abbrev invariant-loop : tie.invariant-loop
 invariant-loop w list₀ i₀ list i =
-    (i ≤ room) × (length list ≡ room) × (reading room tagsPlace wordsPlace w list i ≡ list_of w)
+    (i ≤ room) × (length list ≡ room) × (reading room tags_place words_place w list i ≡ list_of w)
 
 abbrev decreases-loop : tie.decreases-loop
 decreases-loop w list₀ i₀ list i = room - i
@@ -52,10 +52,10 @@ loop-less c = search rules
 
 loop-again : tie.Need-loop-preserved invariant-loop decreases-loop
 loop-again c =
-    (search rules, search rules, read_here room tagsPlace wordsPlace _ c.before.loop.list c.before.loop.i (search rules) (search rules) ∙ c.before.loop.invariant.2)
+    (search rules, search rules, read_here room tags_place words_place _ c.before.loop.list c.before.loop.i (search rules) (search rules) ∙ c.before.loop.invariant.2)
 
 returns : tie.Need-returns invariant-loop decreases-loop
-returns c = sym (read_all room tagsPlace wordsPlace _ c.before.loop.list c.before.loop.i (search rules) (search rules)) ∙ c.before.loop.invariant.2
+returns c = sym (read_all room tags_place words_place _ c.before.loop.list c.before.loop.i (search rules) (search rules)) ∙ c.before.loop.invariant.2
 
 pub list-of-spec : {M : Type 1} → statement M
 list-of-spec =

@@ -1,6 +1,6 @@
 -- `coding::maps_of` meets its contract.
 use mathlib.Core.Path.{refl}
-use Rattle.coding.specs.Coding.{mapsOf}
+use Rattle.coding.specs.Coding.{maps_of}
 use borrow.Author.Rules.{rules}
 use Rattle.coding.proofs.maps_of.Statement.{statement}
 use Rattle.coding.proofs.maps_of.Tie as tie
@@ -12,7 +12,7 @@ array-read-t8 : tie.Need-array-read-t8
 array-read-t8 c = search rules
 
 returns : tie.Need-returns
-unfolding mapsOf
+unfolding maps_of
 returns c = refl
 
 pub maps-of-spec : {M : Type 1} → statement M

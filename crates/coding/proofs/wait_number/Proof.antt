@@ -1,5 +1,5 @@
 -- `coding::wait_number` meets its contract.
-use Rattle.coding.specs.Coding.{waitNumber}
+use Rattle.coding.specs.Coding.{wait_number}
 use borrow.Author.Rules.{rules}
 use Rattle.coding.proofs.wait_number.Statement.{statement}
 use Rattle.coding.proofs.wait_number.Tie as tie
@@ -17,19 +17,19 @@ enum-told-4 : tie.Need-enum-told-4
 enum-told-4 c = search rules
 
 returns : tie.Need-returns
-unfolding waitNumber
+unfolding wait_number
 returns c = simp c.enum_told.given.1
 
 returns-2 : tie.Need-returns-2
-unfolding waitNumber
+unfolding wait_number
 returns-2 c = simp c.enum-told2.given.1
 
 returns-3 : tie.Need-returns-3
-unfolding waitNumber
+unfolding wait_number
 returns-3 c = simp c.enum-told3.given.1
 
 returns-4 : tie.Need-returns-4
-unfolding waitNumber
+unfolding wait_number
 returns-4 c = simp c.enum-told4.given.1
 
 pub wait-number-spec : {M : Type 1} → statement M

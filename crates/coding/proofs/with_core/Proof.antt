@@ -1,7 +1,7 @@
 -- `coding::with_core` meets its contract.
 use native.Mathlib.Omega.{arith}
 use lib.Seq.{sets-eq}
-use Rattle.coding.specs.Coding.{coreWords}
+use Rattle.coding.specs.Coding.{core_words}
 use borrow.Author.Rules.{rules}
 use Rattle.coding.proofs.with_core.Statement.{statement}
 use Rattle.coding.proofs.with_core.Tie as tie
@@ -82,11 +82,11 @@ array-write-o-16 : tie.Need-array-write-o-16
 array-write-o-16 c = search rules
 
 returns : tie.Need-returns
-unfolding coreWords
+unfolding core_words
 returns c =
     let at-start = c.before.before.before.before in (
       simp (c.flag-number.ensures, c.before.wait-number.ensures, c.before.before.packed.ensures)
-          (sets-eq (coreWords at-start.args.c at-start.args.r) at-start.args.w 0 (omega (arith, at-start.well-formed))),
+          (sets-eq (core_words at-start.args.c at-start.args.r) at-start.args.w 0 (omega (arith, at-start.well-formed))),
       search rules,
     )
 

@@ -1,6 +1,6 @@
 -- `endings::fetched` meets its contract.
 use Rattle.rules.specs.Order.{fetched, outcome}
-use Rattle.rules.specs.Unit.{withFetch}
+use Rattle.rules.specs.Unit.{with_fetch}
 use mathlib.Core.Path.{sym}
 use borrow.Author.Rules.{rules}
 use Rattle.endings.proofs.fetched.Statement.{statement}
@@ -10,7 +10,7 @@ after-fetch-requires : tie.Need-after-fetch-requires
 after-fetch-requires c κs = search rules
 
 returns : tie.Need-returns
-unfolding fetched outcome withFetch
+unfolding fetched outcome with_fetch
 returns c = simp (sym c.after-fetch.ensures)
 
 pub fetched-spec : {M : Type 1} → statement M

@@ -1,5 +1,5 @@
 -- `endings::flag_after` meets its contract.
-use Rattle.rules.specs.Order.{flagAfter}
+use Rattle.rules.specs.Order.{flag_after}
 use mathlib.Core.Path.{sym}
 use borrow.Author.Rules.{rules}
 use Rattle.endings.proofs.flag_after.Statement.{statement}
@@ -15,11 +15,11 @@ enum-told-2 : tie.Need-enum-told-2
 enum-told-2 c = search rules
 
 returns : tie.Need-returns
-unfolding flagAfter
+unfolding flag_after
 returns c = simp (sym c.public-page.ensures, c.before.enum_told.given.1)
 
 returns-2 : tie.Need-returns-2
-unfolding flagAfter
+unfolding flag_after
 returns-2 c = simp c.enum-told2.given.1
 
 pub flag-after-spec : {M : Type 1} → statement M

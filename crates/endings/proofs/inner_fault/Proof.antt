@@ -1,5 +1,5 @@
 -- `endings::inner_fault` meets its contract.
-use Rattle.rules.specs.Order.{innerFault}
+use Rattle.rules.specs.Order.{inner_fault}
 use mathlib.Core.Path.{sym}
 use borrow.Author.Rules.{rules}
 use Rattle.endings.proofs.inner_fault.Statement.{statement}
@@ -18,7 +18,7 @@ faulted-requires : tie.Need-faulted-requires
 faulted-requires c κs = search rules
 
 returns : tie.Need-returns
-unfolding innerFault
+unfolding inner_fault
 returns c = simp (sym c.faulted.ensures, sym c.before.tag_of.ensures, sym c.before.before.page-of.ensures.0, sym c.before.before.before.window-addr.ensures)
 
 pub inner-fault-spec : {M : Type 1} → statement M

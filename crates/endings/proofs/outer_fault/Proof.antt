@@ -1,5 +1,5 @@
 -- `endings::outer_fault` meets its contract.
-use Rattle.rules.specs.Order.{outerFault}
+use Rattle.rules.specs.Order.{outer_fault}
 use mathlib.Core.Path.{sym}
 use borrow.Author.Rules.{rules}
 use Rattle.endings.proofs.outer_fault.Statement.{statement}
@@ -15,7 +15,7 @@ faulted-requires : tie.Need-faulted-requires
 faulted-requires c κs = search rules
 
 returns : tie.Need-returns
-unfolding outerFault
+unfolding outer_fault
 returns c = simp (sym c.faulted.ensures, sym c.before.tag_of.ensures, sym c.before.before.page-of.ensures.0)
 
 pub outer-fault-spec : {M : Type 1} → statement M

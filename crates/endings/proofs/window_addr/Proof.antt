@@ -1,5 +1,5 @@
 -- `endings::window_addr` meets its contract.
-use Rattle.rules.specs.Order.{windowAddr}
+use Rattle.rules.specs.Order.{window_addr}
 use borrow.Author.Rules.{rules}
 use Rattle.endings.proofs.window_addr.Statement.{statement}
 use Rattle.endings.proofs.window_addr.Tie as tie
@@ -8,7 +8,7 @@ array-read-result : tie.Need-array-read-result
 array-read-result c = search rules
 
 returns : tie.Need-returns
-unfolding windowAddr
+unfolding window_addr
 returns c = search rules
 
 pub window-addr-spec : {M : Type 1} → statement M

@@ -1,5 +1,5 @@
 -- `fetched::destination_set` meets its contract.
-use Rattle.rules.specs.Fetched.{destinationSet}
+use Rattle.rules.specs.Fetched.{destination_set}
 use borrow.Author.Rules.{rules}
 use mathlib.Core.Path.{sym}
 use Rattle.fetched.proofs.destination_set.Statement.{statement}
@@ -21,7 +21,7 @@ destination-by-requires : tie.Need-destination-by-requires
 destination-by-requires c κs = search rules
 
 returns : tie.Need-returns
-unfolding destinationSet
+unfolding destination_set
 returns c = simp (sym c.destination-by.ensures, sym c.before.before.before.before.is-dato.ensures, sym c.before.before.before.before.before.kind-of.ensures, sym c.before.before.before.before.before.before.destination-only.ensures, sym c.before.before.before.before.before.before.before.normal.ensures)
 
 pub destination-set-spec : {M : Type 1} → statement M

@@ -1,7 +1,7 @@
 -- `fetched::instruction_noted` meets its contract.
 use Rattle.rules.specs.Choice.{pick}
-use Rattle.rules.specs.Fetched.{instructionNoted}
-use Rattle.rules.specs.Unit.{withKept}
+use Rattle.rules.specs.Fetched.{instruction_noted}
+use Rattle.rules.specs.Unit.{with_kept}
 use borrow.Author.Rules.{rules}
 use mathlib.Core.Path.{sym}
 use Rattle.fetched.proofs.instruction_noted.Statement.{statement}
@@ -17,11 +17,11 @@ kept-stored-requires : tie.Need-kept-stored-requires
 kept-stored-requires c κs = search rules
 
 returns : tie.Need-returns
-unfolding instructionNoted withKept pick
+unfolding instruction_noted with_kept pick
 returns c = simp (sym c.kept-stored.ensures, c.before.before.if1.true, sym c.before.before.before.normal.ensures, sym c.before.before.before.before.is-fetch.ensures)
 
 returns-2 : tie.Need-returns-2
-unfolding instructionNoted withKept pick
+unfolding instruction_noted with_kept pick
 returns-2 c = simp (c.if1.false, sym c.before.normal.ensures, sym c.before.before.is-fetch.ensures)
 
 pub instruction-noted-spec : {M : Type 1} → statement M

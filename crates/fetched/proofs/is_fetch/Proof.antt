@@ -1,11 +1,11 @@
 -- `fetched::is_fetch` meets its contract.
-use Rattle.rules.specs.Fetched.{isFetch}
+use Rattle.rules.specs.Fetched.{is_fetch}
 use mathlib.Core.Path.{refl}
 use Rattle.fetched.proofs.is_fetch.Statement.{statement}
 use Rattle.fetched.proofs.is_fetch.Tie as tie
 
 returns : tie.Need-returns
-unfolding isFetch
+unfolding is_fetch
 returns c = refl
 
 pub is-fetch-spec : {M : Type 1} → statement M

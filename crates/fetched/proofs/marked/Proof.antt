@@ -1,7 +1,7 @@
 -- `fetched::marked` meets its contract.
 use Rattle.rules.specs.Choice.{pick}
 use Rattle.rules.specs.Fetched.{marked}
-use Rattle.rules.specs.Unit.{withKtcs}
+use Rattle.rules.specs.Unit.{with_ktcs}
 use borrow.Author.Rules.{rules}
 use mathlib.Core.Path.{sym}
 use Rattle.fetched.proofs.marked.Statement.{statement}
@@ -17,11 +17,11 @@ instruction-noted-requires : tie.Need-instruction-noted-requires
 instruction-noted-requires c κs = search rules
 
 returns : tie.Need-returns
-unfolding marked withKtcs pick
+unfolding marked with_ktcs pick
 returns c = simp (sym c.instruction-noted.ensures, sym c.before.states-marked.ensures, c.before.before.if1.true, sym c.before.before.before.flags-clear.ensures)
 
 returns-2 : tie.Need-returns-2
-unfolding marked withKtcs pick
+unfolding marked with_ktcs pick
 returns-2 c = simp (c.if1.false, sym c.before.flags-clear.ensures)
 
 pub marked-spec : {M : Type 1} → statement M

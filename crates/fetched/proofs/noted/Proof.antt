@@ -1,6 +1,6 @@
 -- `fetched::noted` meets its contract.
 use Rattle.rules.specs.Fetched.{noted}
-use Rattle.rules.specs.Unit.{withFetch}
+use Rattle.rules.specs.Unit.{with_fetch}
 use borrow.Author.Rules.{rules}
 use mathlib.Core.Path.{sym}
 use Rattle.fetched.proofs.noted.Statement.{statement}
@@ -13,7 +13,7 @@ marked-requires : tie.Need-marked-requires
 marked-requires c κs = search rules
 
 returns : tie.Need-returns
-unfolding noted withFetch
+unfolding noted with_fetch
 returns c = simp (sym c.marked.ensures, sym c.before.counted.ensures)
 
 pub noted-spec : {M : Type 1} → statement M

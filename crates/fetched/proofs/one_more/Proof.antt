@@ -1,6 +1,6 @@
 -- `fetched::one_more` meets its contract.
 use Rattle.rules.specs.Choice.{pick}
-use Rattle.rules.specs.Fetched.{oneMore}
+use Rattle.rules.specs.Fetched.{one_more}
 use borrow.Author.Rules.{rules}
 use borrow.Author.Tests.{le-ltb, lt-ltb}
 use Rattle.fetched.proofs.one_more.Statement.{statement}
@@ -10,11 +10,11 @@ add-result : tie.Need-overflow-add-result
 add-result c = search rules
 
 returns : tie.Need-returns
-unfolding oneMore pick
+unfolding one_more pick
 returns c = simp (lt-ltb _ _ c.if1.true)
 
 returns-2 : tie.Need-returns-2
-unfolding oneMore pick
+unfolding one_more pick
 returns-2 c = simp (le-ltb _ _ c.if1.false)
 
 pub one-more-spec : {M : Type 1} → statement M

@@ -1,5 +1,5 @@
 -- `fetched::source_by` meets its contract.
-use Rattle.rules.specs.Fetched.{sourceBy}
+use Rattle.rules.specs.Fetched.{source_by}
 use borrow.Author.Rules.{rules}
 use Rattle.fetched.proofs.source_by.Statement.{statement}
 use Rattle.fetched.proofs.source_by.Tie as tie
@@ -26,31 +26,31 @@ enum-told-7 : tie.Need-enum-told-7
 enum-told-7 c = search rules
 
 returns : tie.Need-returns
-unfolding sourceBy
+unfolding source_by
 returns c = simp c.enum_told.given.1
 
 returns-2 : tie.Need-returns-2
-unfolding sourceBy
+unfolding source_by
 returns-2 c = simp c.enum-told2.given.1
 
 returns-3 : tie.Need-returns-3
-unfolding sourceBy
+unfolding source_by
 returns-3 c = simp c.enum-told3.given.1
 
 returns-4 : tie.Need-returns-4
-unfolding sourceBy
+unfolding source_by
 returns-4 c = simp c.enum-told4.given.1
 
 returns-5 : tie.Need-returns-5
-unfolding sourceBy
+unfolding source_by
 returns-5 c = simp c.enum-told5.given.1
 
 returns-6 : tie.Need-returns-6
-unfolding sourceBy
+unfolding source_by
 returns-6 c = simp c.enum-told6.given.1
 
 returns-7 : tie.Need-returns-7
-unfolding sourceBy
+unfolding source_by
 returns-7 c = simp c.enum-told7.given.1
 
 pub source-by-spec : {M : Type 1} → statement M

@@ -1,5 +1,5 @@
 -- `fetched::source_set` meets its contract.
-use Rattle.rules.specs.Fetched.{sourceSet}
+use Rattle.rules.specs.Fetched.{source_set}
 use borrow.Author.Rules.{rules}
 use mathlib.Core.Path.{sym}
 use Rattle.fetched.proofs.source_set.Statement.{statement}
@@ -21,7 +21,7 @@ source-by-requires : tie.Need-source-by-requires
 source-by-requires c κs = search rules
 
 returns : tie.Need-returns
-unfolding sourceSet
+unfolding source_set
 returns c = simp (sym c.source-by.ensures, sym c.before.is-dato.ensures, sym c.before.before.destination-only.ensures, sym c.before.before.before.before.kind-of.ensures, sym c.before.before.before.before.before.normal.ensures)
 
 pub source-set-spec : {M : Type 1} → statement M

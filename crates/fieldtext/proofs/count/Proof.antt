@@ -1,6 +1,6 @@
 -- `fieldtext::count` meets its contract.
 use borrow.Author.Rules.{rules}
-use Rattle.fieldtext.specs.Number.{decimalOf}
+use Rattle.fieldtext.specs.Number.{decimal_of}
 use Rattle.fieldtext.proofs.count.Statement.{statement}
 use Rattle.fieldtext.proofs.count.Tie as tie
 
@@ -8,7 +8,7 @@ read-digits-requires : tie.Need-read-digits-requires
 read-digits-requires c κs = search rules
 
 returns : tie.Need-returns
-unfolding decimalOf
+unfolding decimal_of
 returns c = c.read-digits.ensures
 
 pub count_spec : {M : Type 1} → statement M

@@ -4,7 +4,7 @@ use mathlib.Core.Path.{◌≡◌, ap}
 use native.Mathlib.Omega.{arith}
 use lib.ListN.{length, drop}
 use Rattle.fieldtext.specs.Cut.{head_of}
-use Rattle.fieldtext.proofs.Scan.{head-end, head-tab, head_more}
+use Rattle.fieldtext.proofs.Scan.{head_end, head_tab, head_more}
 use Rattle.fieldtext.proofs.field_end.Statement.{statement}
 use Rattle.fieldtext.proofs.field_end.Tie as tie
 
@@ -24,7 +24,7 @@ returns : tie.Need-returns invariant-loop decreases-loop
 returns c =
     let s = c.before.before.before.before.args.s.now in
     let i = c.before.before.before.loop.i in
-    omega (arith, ap length (head-tab s i c.before.before.loop-test.true c.if1.true))
+    omega (arith, ap length (head_tab s i c.before.before.loop-test.true c.if1.true))
 
 add-i : tie.Need-overflow-add-i invariant-loop decreases-loop
 add-i c = omega arith
@@ -39,7 +39,7 @@ loop-again c =
     omega (arith, ap length (head_more s i c.before.before.loop-test.true c.if1.false))
 
 returns-2 : tie.Need-returns-2 invariant-loop decreases-loop
-returns-2 c = omega (arith, ap length (head-end c.before.before.args.s.now c.before.loop.i c.loop-test.false))
+returns-2 c = omega (arith, ap length (head_end c.before.before.args.s.now c.before.loop.i c.loop-test.false))
 
 pub field-end-spec : {M : Type 1} → statement M
 field-end-spec =

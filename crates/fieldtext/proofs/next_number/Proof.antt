@@ -1,12 +1,12 @@
 -- `fieldtext::next_number` meets its contract, by the three laws of reading one number.
 use borrow.Author.Rules.{rules}
 use mathlib.Core.Path.{sym, ◌∙◌}
-use Rattle.fieldtext.proofs.Read.{took-past, took-value, took-other}
+use Rattle.fieldtext.proofs.Read.{took_past, took_value, took_other}
 use Rattle.fieldtext.proofs.next_number.Statement.{statement}
 use Rattle.fieldtext.proofs.next_number.Tie as tie
 
 returns : tie.Need-returns
-returns c = took-past c.before.before.args.line.now c.before.before.args.before c.if1.true
+returns c = took_past c.before.before.args.line.now c.before.before.args.before c.if1.true
 
 sub-field-end : tie.Need-overflow-sub-field-end
 sub-field-end c = search rules
@@ -49,13 +49,13 @@ add-t18 c = search rules
 
 returns-2 : tie.Need-returns-2
 returns-2 c =
-    took-value c.before.before.before.before.before.before.before.before.before.args.line.now c.before.before.before.before.before.before.before.before.before.args.before
+    took_value c.before.before.before.before.before.before.before.before.before.args.line.now c.before.before.before.before.before.before.before.before.before.args.before
     c.before.before.before.before.before.field-end.result c.before.before.before.before.before.before.before.if1.false c.before.before.before.before.before.field-end.ensures.0
     c.before.number.given.0.0 (sym c.before.number.given.1 ∙ c.before.before.before.octal.ensures)
 
 returns-3 : tie.Need-returns-3
 returns-3 c =
-    took-other c.before.before.before.before.before.before.before.before.args.line.now c.before.before.before.before.before.before.before.before.args.before
+    took_other c.before.before.before.before.before.before.before.before.args.line.now c.before.before.before.before.before.before.before.before.args.before
     c.before.before.before.before.field-end.result c.before.before.before.before.before.before.if1.false c.before.before.before.before.field-end.ensures.0
     (sym c.enum_told.given.1 ∙ c.before.before.octal.ensures)
 

@@ -3,7 +3,7 @@ use mathlib.Core.Path.{sym, ◌∙◌}
 use borrow.Author.Rules.{rules}
 use borrow.Author.Tests.{lt-ltb, le-ltb}
 use Rattle.rules.specs.Choice.{pick}
-use Rattle.fieldtext.proofs.Digits.{number-worth, number-other}
+use Rattle.fieldtext.proofs.Digits.{number_worth, number_other}
 use Rattle.fieldtext.proofs.octal.Statement.{statement}
 use Rattle.fieldtext.proofs.octal.Tie as tie
 
@@ -23,17 +23,17 @@ returns : tie.Need-returns
 unfolding pick
 returns c =
     simp
-    (number-worth c.before.before.before.before.before.before.args.field.now c.before.before.read.given.0.0 (sym c.before.before.read.given.1 ∙ c.before.before.before.before.read-digits.ensures), lt-ltb _ _ c.if1.true)
+    (number_worth c.before.before.before.before.before.before.args.field.now c.before.before.read.given.0.0 (sym c.before.before.read.given.1 ∙ c.before.before.before.before.read-digits.ensures), lt-ltb _ _ c.if1.true)
 
 returns-2 : tie.Need-returns-2
 unfolding pick
 returns-2 c =
     simp
-    (number-worth c.before.before.before.before.before.before.args.field.now c.before.before.read.given.0.0 (sym c.before.before.read.given.1 ∙ c.before.before.before.before.read-digits.ensures), le-ltb _ _ c.if1.false)
+    (number_worth c.before.before.before.before.before.before.args.field.now c.before.before.read.given.0.0 (sym c.before.before.read.given.1 ∙ c.before.before.before.before.read-digits.ensures), le-ltb _ _ c.if1.false)
 
 returns-3 : tie.Need-returns-3
 returns-3 c =
-    sym (number-other c.before.before.before.before.args.field.now (sym c.enum_told.given.1 ∙ c.before.before.read-digits.ensures))
+    sym (number_other c.before.before.before.before.args.field.now (sym c.enum_told.given.1 ∙ c.before.before.read-digits.ensures))
 
 pub octal-spec : {M : Type 1} → statement M
 octal-spec =

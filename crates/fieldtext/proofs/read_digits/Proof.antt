@@ -7,8 +7,8 @@ use borrow.Author.Rules.{rules}
 use borrow.Author.Tests.{not-true, not-false}
 use lib.ListN.{length, drop, get_or}
 use Rattle.fieldtext.specs.declared.Figures.TheVariants.{Worth}
-use Rattle.fieldtext.specs.Number.{isDigit, allDigits, worthFrom}
-use Rattle.fieldtext.proofs.Digits.{digit-range, digits-end, digits_more, worth-end, worth-more, at-most-tenfold, ten-more, ten-small, digits-none, digits-many, digits-other, digits-worth}
+use Rattle.fieldtext.specs.Number.{is_digit, all_digits, worth_from}
+use Rattle.fieldtext.proofs.Digits.{digit_range, digits_end, digits_more, worth-end, worth-more, at_most_tenfold, ten_more, ten_small, digits_none, digits_many, digits_other, digits_worth}
 use Rattle.fieldtext.proofs.read_digits.Statement.{statement}
 use Rattle.fieldtext.proofs.read_digits.Tie as tie
 
@@ -16,8 +16,8 @@ abbrev invariant-loop : tie.invariant-loop
 invariant-loop bytes base most value₀ passed₀ value passed =
     (passed ≤ length bytes)
     × (value < 10 ^ passed)
-    × (allDigits base bytes ≡ allDigits base (drop passed bytes))
-    × (worthFrom base 0 bytes ≡ worthFrom base value (drop passed bytes))
+    × (all_digits base bytes ≡ all_digits base (drop passed bytes))
+    × (worth_from base 0 bytes ≡ worth_from base value (drop passed bytes))
 
 abbrev decreases-loop : tie.decreases-loop
 decreases-loop bytes base most value₀ passed₀ value passed = length bytes - passed
@@ -25,12 +25,12 @@ decreases-loop bytes base most value₀ passed₀ value passed = length bytes - 
 returns : tie.Need-returns invariant-loop decreases-loop
 returns c =
     let a = c.before.before.args in
-    sym (digits-none a.base a.most a.bytes.now c.if1.true)
+    sym (digits_none a.base a.most a.bytes.now c.if1.true)
 
 returns-2 : tie.Need-returns-2 invariant-loop decreases-loop
 returns-2 c =
     let a = c.before.before.before.args in
-    sym (digits-many a.base a.most a.bytes.now (omega arith))
+    sym (digits_many a.base a.most a.bytes.now (omega arith))
 
 loop-holds : tie.Need-loop-init invariant-loop decreases-loop
 loop-holds c = search rules
@@ -46,37 +46,37 @@ returns-3 c =
     let a = c.before.before.before.before.before.before.before.before.args in
     let f = a.bytes.now in
     let i = c.before.before.before.before.loop.passed in
-    let d : isDigit a.base (get_or f i 0) ≡ false = sym c.before.is_digit.ensures ∙ not-true _ c.if3.true in
-    let all : allDigits a.base f ≡ false =
+    let d : is_digit a.base (get_or f i 0) ≡ false = sym c.before.is_digit.ensures ∙ not-true _ c.if3.true in
+    let all : all_digits a.base f ≡ false =
     c.before.before.before.before.loop.invariant.2 ∙ digits_more a.base f i c.before.before.before.loop-test.true ∙ simp d
     in
-    sym (digits-other a.base a.most f all)
+    sym (digits_other a.base a.most f all)
 
 -- In a turn whose byte was taken for a digit: it is one,
 module _ (c : tie.Else3 invariant-loop decreases-loop) where
-  digit-here : isDigit c.before.before.before.before.before.before.before.before.args.base (get_or c.before.before.before.before.before.before.before.before.args.bytes.now c.before.before.before.before.loop.passed 0) ≡ true
-  digit-here = sym c.before.is_digit.ensures ∙ not-false _ c.if3.false
+  digit_here : is_digit c.before.before.before.before.before.before.before.before.args.base (get_or c.before.before.before.before.before.before.before.before.args.bytes.now c.before.before.before.before.loop.passed 0) ≡ true
+  digit_here = sym c.before.is_digit.ensures ∙ not-false _ c.if3.false
 
-  range-here : (47 < get_or c.before.before.before.before.before.before.before.before.args.bytes.now c.before.before.before.before.loop.passed 0) × (get_or c.before.before.before.before.before.before.before.before.args.bytes.now c.before.before.before.before.loop.passed 0 < 58)
-  range-here =
-      let r = digit-range c.before.before.before.before.before.before.before.before.args.base _ digit-here in
+  range_here : (47 < get_or c.before.before.before.before.before.before.before.before.args.bytes.now c.before.before.before.before.loop.passed 0) × (get_or c.before.before.before.before.before.before.before.before.args.bytes.now c.before.before.before.before.loop.passed 0 < 58)
+  range_here =
+      let r = digit_range c.before.before.before.before.before.before.before.before.args.base _ digit_here in
       (r.0, omega (arith, r.1, c.before.before.before.before.before.before.before.before.requires))
 
   -- and what was said before it, taken base times, fits
   tenfold : c.before.before.before.before.loop.value * c.before.before.before.before.before.before.before.before.args.base ≤ c.before.before.before.before.loop.value * 10
-  tenfold = at-most-tenfold _ _ c.before.before.before.before.before.before.before.before.requires.0
+  tenfold = at_most_tenfold _ _ c.before.before.before.before.before.before.before.before.requires.0
 
 mul-value : tie.Need-overflow-mul-value invariant-loop decreases-loop
-mul-value c = omega (arith, tenfold c, ten-small c.before.before.before.before.loop.passed (omega arith))
+mul-value c = omega (arith, tenfold c, ten_small c.before.before.before.before.loop.passed (omega arith))
 
 sub-value : tie.Need-overflow-sub-value invariant-loop decreases-loop
-sub-value c = omega (arith, range-here c)
+sub-value c = omega (arith, range_here c)
 
 cast-value : tie.Need-overflow-cast-value invariant-loop decreases-loop
-cast-value c = omega (arith, range-here c)
+cast-value c = omega (arith, range_here c)
 
 add-value : tie.Need-overflow-add-value invariant-loop decreases-loop
-add-value c = omega (arith, range-here c, tenfold c, ten-small c.before.before.before.before.loop.passed (omega arith))
+add-value c = omega (arith, range_here c, tenfold c, ten_small c.before.before.before.before.loop.passed (omega arith))
 
 add-passed : tie.Need-overflow-add-passed invariant-loop decreases-loop
 add-passed c = search rules
@@ -92,8 +92,8 @@ loop-again c =
     let inv = c.before.before.before.before.loop.invariant in
     let more = c.before.before.before.loop-test.true in (
       omega arith,
-      omega (arith, range-here c, tenfold c, ten-more i),
-      inv.2 ∙ digits_more a.base f i more ∙ simp (digit-here c),
+      omega (arith, range_here c, tenfold c, ten_more i),
+      inv.2 ∙ digits_more a.base f i more ∙ simp (digit_here c),
       inv.3 ∙ worth-more a.base f _ i more,
     )
 
@@ -103,9 +103,9 @@ returns-4 c =
     let f = a.bytes.now in
     let v = c.before.loop.value in
     let i = c.before.loop.passed in
-    let w : worthFrom a.base 0 f ≡ v = c.before.loop.invariant.3 ∙ worth-end a.base f v i c.loop-test.false in
-    let all : allDigits a.base f ≡ true = c.before.loop.invariant.2 ∙ digits-end a.base f i c.loop-test.false in
-    ap Worth (sym w) ∙ sym (digits-worth a.base a.most f (omega arith) (omega arith) all)
+    let w : worth_from a.base 0 f ≡ v = c.before.loop.invariant.3 ∙ worth-end a.base f v i c.loop-test.false in
+    let all : all_digits a.base f ≡ true = c.before.loop.invariant.2 ∙ digits_end a.base f i c.loop-test.false in
+    ap Worth (sym w) ∙ sym (digits_worth a.base a.most f (omega arith) (omega arith) all)
 
 pub read-digits-spec : {M : Type 1} → statement M
 read-digits-spec =

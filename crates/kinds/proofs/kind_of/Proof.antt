@@ -1,5 +1,5 @@
 -- `kinds::kind_of` meets its contract.
-use Rattle.rules.proofs.Laws.KindLaws.{jsr-word, low_word, other_word, rts-word, trap-word}
+use Rattle.rules.proofs.Laws.KindLaws.{jsr_word, low_word, other_word, rts_word, trap_word}
 use Rattle.rules.specs.Choice.{pick}
 use Rattle.rules.specs.Fetched.{between, kind_of}
 use native.Mathlib.Omega.{arith}
@@ -15,13 +15,13 @@ unfolding kind_of between pick
 returns-2 c = simp c.match.keys3
 
 returns-3 : tie.Need-returns-3
-returns-3 c = rts-word _ c.before.if2.false (omega arith)
+returns-3 c = rts_word _ c.before.if2.false (omega arith)
 
 returns-4 : tie.Need-returns-4
-returns-4 c = jsr-word _ c.before.if4.false (omega arith)
+returns-4 c = jsr_word _ c.before.if4.false (omega arith)
 
 returns-5 : tie.Need-returns-5
-returns-5 c = trap-word _ c.before.if6.false (omega arith)
+returns-5 c = trap_word _ c.before.if6.false (omega arith)
 
 returns-6 : tie.Need-returns-6
 returns-6 c = other_word _ (λ a b. omega arith) (λ a b. omega arith) (λ a b. omega arith) c.before.if1.false c.before.before.match.rest.0.0.1 c.before.before.match.rest.0.1 c.before.before.match.rest.1

@@ -1,11 +1,11 @@
 -- `kt11b::by_sort` meets its contract.
 use mathlib.Core.Path.{◌≡◌, sym, ap, ◌∙◌}
-use Rattle.kt11b.proofs.Calls.{unit-all, stay-words, stay-memory, stay-reply, quick-words, quick-memory, quick-reply, owed-at}
+use Rattle.kt11b.proofs.Calls.{unit-all, stay_words, stay_memory, stay_reply, quick_words, quick_memory, quick_reply, owed_at}
 use mathlib.Core.Bool.{true}
 use mathlib.Core.List.{◌++◌}
 use lib.ListN.{length, drop}
 use Rattle.rules.specs.declared.Maps.{Maps}
-use Rattle.coding.specs.Coding.{coreCount, unitWords, is_unit, decoded, coreWords}
+use Rattle.coding.specs.Coding.{core_count, unit_words, is_unit, decoded, core_words}
 use borrow.Author.Rules.{rules}
 use Rattle.kt11b.proofs.by_sort.Statement.{statement}
 use Rattle.kt11b.proofs.by_sort.Tie as tie
@@ -48,12 +48,12 @@ returns c =
     let w = at-start.args.unit.now in
     let q = at-start.args.q in
     let is : is_unit w ≡ true = sym c.before.before.before.before.before.before.before.before.before.before.before.before.before.before.before.before.before.is-unit.ensures ∙ c.before.before.before.before.before.before.before.before.before.before.before.before.before.before.before.before.if1.true in
-    let long : length w ≡ unitWords = c.before.with-core.ensures.1 in
+    let long : length w ≡ unit_words = c.before.with-core.ensures.1 in
     let yes = sym c.before.before.before.before.before.before.before.before.before.before.before.before.before.before.usual.ensures ∙ c.before.before.before.before.before.before.before.before.before.before.before.before.before.if2.true in
-    let s = owed-at m w q _ _ _ c.before.before.before.before.before.before.before.before.before.before.before.before.before.before.before.core-of.ensures c.before.before.before.before.before.before.before.before.before.before.before.before.Cells-of.ensures yes c.before.before.before.before.before.before.before.before.before.before.attempted.ensures in
+    let s = owed_at m w q _ _ _ c.before.before.before.before.before.before.before.before.before.before.before.before.before.before.before.core-of.ensures c.before.before.before.before.before.before.before.before.before.before.before.before.Cells-of.ensures yes c.before.before.before.before.before.before.before.before.before.before.attempted.ensures in
     let over = c.before.before.before.before.before.before.before.before.before.if3.true in (
-      quick-words m w q _ is s over _ long (c.before.with-core.ensures.0 ∙ ap (λ (r : Maps). coreWords c.before.before.before.before.before.before.before.before.before.before.attempted.result.outcome.core r ++ drop coreCount w) c.before.before.maps-of.ensures),
-      (quick-memory m w q _ is s over _ c.before.before.before.before.before.before.store.ensures, quick-reply m w q _ is s over _ c.replied.ensures),
+      quick_words m w q _ is s over _ long (c.before.with-core.ensures.0 ∙ ap (λ (r : Maps). core_words c.before.before.before.before.before.before.before.before.before.before.attempted.result.outcome.core r ++ drop core_count w) c.before.before.maps-of.ensures),
+      (quick_memory m w q _ is s over _ c.before.before.before.before.before.before.store.ensures, quick_reply m w q _ is s over _ c.replied.ensures),
     )
 
 by-steps-requires : tie.Need-by-steps-requires
@@ -78,7 +78,7 @@ no-unit-requires : tie.Need-no-unit-requires
 no-unit-requires c κs = search rules
 
 returns-4 : tie.Need-returns-4
-returns-4 c = (stay-words _ _ _ (sym c.before.before.is-unit.ensures ∙ c.before.if1.false), (stay-memory _ _ _ (sym c.before.before.is-unit.ensures ∙ c.before.if1.false), stay-reply _ _ _ _ (sym c.before.before.is-unit.ensures ∙ c.before.if1.false) c.no-unit.ensures))
+returns-4 c = (stay_words _ _ _ (sym c.before.before.is-unit.ensures ∙ c.before.if1.false), (stay_memory _ _ _ (sym c.before.before.is-unit.ensures ∙ c.before.if1.false), stay_reply _ _ _ _ (sym c.before.before.is-unit.ensures ∙ c.before.if1.false) c.no-unit.ensures))
 
 pub by-sort-spec : {M : Type 1} → statement M
 by-sort-spec =

@@ -6,7 +6,7 @@ use Rattle.rules.specs.declared.Unit.{Unit}
 use Rattle.rules.specs.Answers.{shown}
 use Rattle.rules.specs.Calls.{After, call_of}
 use Rattle.coding.specs.Coding.{coded}
-use Rattle.replies.specs.Replies.{replyWord}
+use Rattle.replies.specs.Replies.{reply_word}
 use borrow.Author.Rules.{rules}
 use Rattle.kt11b.proofs.by_steps.Statement.{statement}
 use Rattle.kt11b.proofs.by_steps.Tie as tie
@@ -30,7 +30,7 @@ returns c =
     let same = ap (λ (u : Unit). call_of args.memory.now u (Call.Access args.q)) c.before.before.before.before.before.before.decoded.ensures in
     let reply = called.0 ∙ ap (λ (a : After). a.reply) same in (
       c.put_back.ensures.0 ∙ ap (λ (r : Reply). coded r.unit) reply,
-      (called.1 ∙ ap (λ (a : After). a.memory) same, c.put_back.ensures.1 ∙ ap (λ (r : Reply). replyWord (shown r.answer)) reply),
+      (called.1 ∙ ap (λ (a : After). a.memory) same, c.put_back.ensures.1 ∙ ap (λ (r : Reply). reply_word (shown r.answer)) reply),
     )
 
 pub by-steps-spec : {M : Type 1} → statement M

@@ -1,6 +1,6 @@
 -- `kt11b::kt11b_interrupt` meets its contract.
 use mathlib.Core.Path.{sym, ◌∙◌}
-use Rattle.kt11b.proofs.Calls.{unit-words, unit-reply, stay-words, stay-reply}
+use Rattle.kt11b.proofs.Calls.{unit-words, unit-reply, stay_words, stay_reply}
 use borrow.Author.Rules.{rules}
 use Rattle.kt11b.proofs.kt11b_interrupt.Statement.{statement}
 use Rattle.kt11b.proofs.kt11b_interrupt.Tie as tie
@@ -28,7 +28,7 @@ no-unit-requires c κs = search rules
 
 returns-2 : tie.Need-returns-2
 returns-2 c =
-    (λ m. stay-words m _ _ (sym c.before.before.is-unit.ensures ∙ c.before.if1.false), λ m. stay-reply m _ _ _ (sym c.before.before.is-unit.ensures ∙ c.before.if1.false) c.no-unit.ensures)
+    (λ m. stay_words m _ _ (sym c.before.before.is-unit.ensures ∙ c.before.if1.false), λ m. stay_reply m _ _ _ (sym c.before.before.is-unit.ensures ∙ c.before.if1.false) c.no-unit.ensures)
 
 pub kt11b-interrupt-spec : {M : Type 1} → statement M
 kt11b-interrupt-spec =

@@ -3,7 +3,7 @@ use Rattle.rules.specs.Choice.{pick}
 use borrow.Author.Rules.{rules}
 use mathlib.Core.Path.{sym, ◌∙◌}
 use mathlib.Core.Bool.{true, false}
-use Rattle.linetext.proofs.Lines.{access-read}
+use Rattle.linetext.proofs.Lines.{access_read}
 use Rattle.linetext.proofs.access.Statement.{statement}
 use Rattle.linetext.proofs.access.Tie as tie
 
@@ -28,7 +28,7 @@ finished-requires c κs = search rules
 returns : tie.Need-returns
 unfolding pick
 returns c =
-    access-read _ _ _ _ _ _
+    access_read _ _ _ _ _ _
     c.before.before.before.before.before.before.first-number.ensures
     c.before.before.before.before.before.next-number.ensures
     c.before.before.before.before.next-number2.ensures
@@ -39,7 +39,7 @@ returns c =
 returns-2 : tie.Need-returns-2
 unfolding pick
 returns-2 c =
-    access-read _ _ _ _ _ _
+    access_read _ _ _ _ _ _
     c.before.before.before.before.before.before.first-number.ensures
     c.before.before.before.before.before.next-number.ensures
     c.before.before.before.before.next-number2.ensures

@@ -1,7 +1,7 @@
 -- `linetext::parse` meets its contract: a first field of one byte is the letter, and no other is one.
 use borrow.Author.Rules.{rules}
 use mathlib.Core.Path.{sym, ◌∙◌}
-use Rattle.linetext.proofs.Chain.{line_other, line-letter}
+use Rattle.linetext.proofs.Chain.{line_other, line_letter}
 use Rattle.linetext.proofs.parse.Statement.{statement}
 use Rattle.linetext.proofs.parse.Tie as tie
 
@@ -20,7 +20,7 @@ by-letter-requires c κs = search rules
 returns-2 : tie.Need-returns-2
 returns-2 c =
     let one = sym c.before.before.before.field-end.ensures.0 ∙ c.before.before.if1.false in
-    c.by-letter.ensures ∙ sym (line-letter c.before.before.before.before.before.args.line.now one)
+    c.by-letter.ensures ∙ sym (line_letter c.before.before.before.before.before.args.line.now one)
 
 pub parse-spec : {M : Type 1} → statement M
 parse-spec =

@@ -1,7 +1,7 @@
 -- The walk of an exec page, simple or not.
 use mathlib.Core.Path.{sym}
 use borrow.Author.Rules.{rules}
-use Rattle.rules.specs.Maps.{execWalk}
+use Rattle.rules.specs.Maps.{exec_walk}
 use Rattle.rules.specs.Choice.{pick}
 use Rattle.maps.proofs.exec_walk.Statement.{statement}
 use Rattle.maps.proofs.exec_walk.Tie as tie
@@ -28,7 +28,7 @@ word-walk-requires-2 : tie.Need-word-walk-requires-2
 word-walk-requires-2 c κs = search rules
 
 returns : tie.Need-returns
-unfolding execWalk pick
+unfolding exec_walk pick
 returns c =
     simp (
       sym c.word-walk.ensures,
@@ -39,7 +39,7 @@ returns c =
     )
 
 returns-2 : tie.Need-returns-2
-unfolding execWalk pick
+unfolding exec_walk pick
 returns-2 c =
     simp (
       sym c.word-walk2.ensures,

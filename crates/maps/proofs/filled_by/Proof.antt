@@ -1,7 +1,7 @@
 -- What a walk leaves in the cells, by what the walk came to.
 use mathlib.Core.Path.{sym}
 use borrow.Author.Rules.{rules}
-use Rattle.rules.specs.Maps.{filledBy}
+use Rattle.rules.specs.Maps.{filled_by}
 use Rattle.maps.proofs.filled_by.Statement.{statement}
 use Rattle.maps.proofs.filled_by.Tie as tie
 
@@ -15,11 +15,11 @@ enum_told : tie.Need-enum-told
 enum_told c = search rules
 
 returns : tie.Need-returns
-unfolding filledBy
+unfolding filled_by
 returns c = simp (sym c.filled.ensures, c.before.before.w.given.1)
 
 returns-2 : tie.Need-returns-2
-unfolding filledBy
+unfolding filled_by
 returns-2 c = simp c.enum_told.given.1
 
 pub filled-by-spec : {M : Type 1} → statement M

@@ -17,11 +17,11 @@ sought-requires c κs = search rules
 
 returns : tie.Need-returns
 unfolding looked pick
-returns c = simp (sym c.exec-zero-entry.ensures, c.before.if1.true, sym c.before.before.exec-zero.ensures)
+returns c = simp (sym c.exec-zero-entry.ensures, c.before.if1.true, sym c.before.before.at_exec_zero.ensures)
 
 returns-2 : tie.Need-returns-2
 unfolding looked pick
-returns-2 c = simp (sym c.sought.ensures, c.before.if1.false, sym c.before.before.exec-zero.ensures)
+returns-2 c = simp (sym c.sought.ensures, c.before.if1.false, sym c.before.before.at_exec_zero.ensures)
 
 pub looked-spec : {M : Type 1} → statement M
 looked-spec =

@@ -2,7 +2,7 @@
 use mathlib.Core.Path.{sym}
 use borrow.Author.Tests.{lt-ltb, le-ltb}
 use borrow.Author.Rules.{rules}
-use Rattle.rules.specs.Maps.{pointerWalk, unlessOff}
+use Rattle.rules.specs.Maps.{pointer_walk, unless_off}
 use Rattle.rules.specs.Choice.{pick}
 use Rattle.maps.proofs.pointer_walk.Statement.{statement}
 use Rattle.maps.proofs.pointer_walk.Tie as tie
@@ -17,7 +17,7 @@ followed-requires : tie.Need-followed-requires
 followed-requires c κs = search rules
 
 returns : tie.Need-returns
-unfolding pointerWalk unlessOff pick
+unfolding pointer_walk unless_off pick
 returns c =
     simp (
       sym c.followed.ensures,
@@ -27,7 +27,7 @@ returns c =
     )
 
 returns-2 : tie.Need-returns-2
-unfolding pointerWalk unlessOff pick
+unfolding pointer_walk unless_off pick
 returns-2 c = simp (le-ltb _ _ c.if1.false)
 
 pub pointer-walk-spec : {M : Type 1} → statement M

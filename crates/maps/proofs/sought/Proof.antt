@@ -2,7 +2,7 @@
 use mathlib.Core.Path.{sym}
 use borrow.Author.Rules.{rules}
 use Rattle.rules.specs.Unit.{there}
-use Rattle.rules.specs.Maps.{soughtIn, cell_of}
+use Rattle.rules.specs.Maps.{sought_in, cell_of}
 use Rattle.maps.proofs.sought.Statement.{statement}
 use Rattle.maps.proofs.sought.Tie as tie
 
@@ -28,7 +28,7 @@ missed-requires : tie.Need-missed-requires
 missed-requires c κs = search rules
 
 returns : tie.Need-returns
-unfolding soughtIn cell_of there
+unfolding sought_in cell_of there
 returns c =
     simp (
       sym c.Cell-at.ensures,
@@ -38,7 +38,7 @@ returns c =
     )
 
 returns-2 : tie.Need-returns-2
-unfolding soughtIn cell_of there
+unfolding sought_in cell_of there
 returns-2 c =
     simp (
       sym c.missed.ensures,

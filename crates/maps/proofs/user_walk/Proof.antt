@@ -1,7 +1,7 @@
 -- The walk of a user page, simple or not.
 use mathlib.Core.Path.{sym}
 use borrow.Author.Rules.{rules}
-use Rattle.rules.specs.Maps.{userWalk}
+use Rattle.rules.specs.Maps.{user_walk}
 use Rattle.rules.specs.Choice.{pick}
 use Rattle.maps.proofs.user_walk.Statement.{statement}
 use Rattle.maps.proofs.user_walk.Tie as tie
@@ -22,7 +22,7 @@ pointer-walk-requires : tie.Need-pointer-walk-requires
 pointer-walk-requires c κs = search rules
 
 returns : tie.Need-returns
-unfolding userWalk pick
+unfolding user_walk pick
 returns c =
     simp (
       sym c.word-walk.ensures,
@@ -33,7 +33,7 @@ returns c =
     )
 
 returns-2 : tie.Need-returns-2
-unfolding userWalk pick
+unfolding user_walk pick
 returns-2 c =
     simp (
       sym c.pointer-walk.ensures,

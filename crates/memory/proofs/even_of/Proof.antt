@@ -1,5 +1,5 @@
 -- `memory::even_of` meets its contract.
-use Rattle.rules.specs.Memory.{evenOf}
+use Rattle.rules.specs.Memory.{even_of}
 use borrow.Author.Rules.{rules}
 use Rattle.memory.proofs.even_of.Statement.{statement}
 use Rattle.memory.proofs.even_of.Tie as tie
@@ -8,7 +8,7 @@ mul-result : tie.Need-overflow-mul-result
 mul-result c = search rules
 
 returns : tie.Need-returns
-unfolding evenOf
+unfolding even_of
 returns c = search rules
 
 pub even-of-spec : {M : Type 1} → statement M

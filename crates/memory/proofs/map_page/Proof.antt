@@ -1,6 +1,6 @@
 -- `memory::map_page` meets its contract.
 use native.Mathlib.Nat.{add-sub_cancel_left}
-use Rattle.rules.specs.Tools.{mapPage}
+use Rattle.rules.specs.Tools.{map_page}
 use Rattle.rules.specs.Maps.{low9}
 use Rattle.rules.specs.Choice.{pick}
 use mathlib.Core.Path.{sym}
@@ -28,11 +28,11 @@ slice-aggregate-result : tie.Need-slice-aggregate-result
 slice-aggregate-result c = search rules
 
 returns : tie.Need-returns
-unfolding mapPage low9 pick
+unfolding map_page low9 pick
 returns c = simp (le-leb _ _ c.before.if1.true, add-sub_cancel_left)
 
 returns-2 : tie.Need-returns-2
-unfolding mapPage low9 pick
+unfolding map_page low9 pick
 returns-2 c = simp (lt-leb _ _ c.before.if1.false)
 
 pub map-page-spec : {M : Type 1} → statement M

@@ -1,5 +1,5 @@
 -- `memory::store_word` meets its contract.
-use Rattle.rules.proofs.Laws.MemoryLaws.{storeWord-bytes, storeWord-past}
+use Rattle.rules.proofs.Laws.MemoryLaws.{store_word-bytes, store_word-past}
 use mathlib.Core.Path.{sym}
 use borrow.Author.Rules.{rules}
 use Rattle.memory.proofs.store_word.Statement.{statement}
@@ -18,10 +18,10 @@ same_length : tie.Need-same-length
 same_length c = search rules
 
 returns : tie.Need-returns
-returns c = rw storeWord-bytes (cc)
+returns c = rw store_word-bytes (cc)
 
 returns-2 : tie.Need-returns-2
-returns-2 c = sym (storeWord-past _ _ _ c.if1.false)
+returns-2 c = sym (store_word-past _ _ _ c.if1.false)
 
 pub store-word-spec : {M : Type 1} → statement M
 store-word-spec =

@@ -1,6 +1,6 @@
 -- `memory::word_at` meets its contract.
-use Rattle.rules.specs.Memory.{wordAt}
-use Rattle.rules.proofs.Laws.MemoryLaws.{wordAt-past}
+use Rattle.rules.specs.Memory.{word_at}
+use Rattle.rules.proofs.Laws.MemoryLaws.{word_at-past}
 use mathlib.Core.Path.{sym}
 use borrow.Author.Rules.{rules}
 use Rattle.memory.proofs.word_at.Statement.{statement}
@@ -22,11 +22,11 @@ add-result : tie.Need-overflow-add-result
 add-result c = search rules
 
 returns : tie.Need-returns
-unfolding wordAt
+unfolding word_at
 returns c = cc (c.before.byte_at.ensures.0, c.byte-at2.ensures.0)
 
 returns-2 : tie.Need-returns-2
-returns-2 c = sym (wordAt-past _ _ c.if1.false)
+returns-2 c = sym (word_at-past _ _ c.if1.false)
 
 pub word-at-spec : {M : Type 1} → statement M
 word-at-spec =

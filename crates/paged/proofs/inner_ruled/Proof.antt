@@ -1,5 +1,5 @@
 -- `paged::inner_ruled` meets its contract.
-use Rattle.rules.specs.Order.{innerRuled}
+use Rattle.rules.specs.Order.{inner_ruled}
 use Rattle.rules.proofs.Laws.RunLaws.{run-done}
 use mathlib.Core.Path.{sym}
 use borrow.Author.Rules.{rules}
@@ -31,11 +31,11 @@ inner-target-requires : tie.Need-inner-target-requires
 inner-target-requires c κs = search rules
 
 returns : tie.Need-returns
-unfolding innerRuled
+unfolding inner_ruled
 returns c = simp (run-done, c.ended.ensures, sym c.before.inner-fault.ensures, c.before.before.before.ruling.given.1)
 
 returns-2 : tie.Need-returns-2
-unfolding innerRuled
+unfolding inner_ruled
 returns-2 c = simp (sym c.inner-target.ensures, sym c.before.place_of.ensures, sym c.before.before.physical-at.ensures.0, sym c.before.before.before.window-addr.ensures, c.before.before.before.before.before.ruling2.given.1)
 
 pub inner-ruled-spec : {M : Type 1} → statement M

@@ -1,5 +1,5 @@
 -- `paged::inner_target` meets its contract.
-use Rattle.rules.specs.Order.{innerTarget}
+use Rattle.rules.specs.Order.{inner_target}
 use Rattle.rules.proofs.Laws.RunLaws.{run-done}
 use mathlib.Core.Path.{sym}
 use borrow.Author.Rules.{rules}
@@ -31,15 +31,15 @@ ended-requires-2 : tie.Need-ended-requires-2
 ended-requires-2 c κs = search rules
 
 returns : tie.Need-returns
-unfolding innerTarget
+unfolding inner_target
 returns c = simp (sym c.transferred.ensures, c.before.before.pl.given.1)
 
 returns-2 : tie.Need-returns-2
-unfolding innerTarget
+unfolding inner_target
 returns-2 c = simp (run-done, c.ended.ensures, sym c.before.inner-fault.ensures, c.before.before.enum_told.given.1)
 
 returns-3 : tie.Need-returns-3
-unfolding innerTarget
+unfolding inner_target
 returns-3 c = simp (run-done, c.ended2.ensures, sym c.before.inner-fault2.ensures, c.before.before.enum-told2.given.1)
 
 pub inner-target-spec : {M : Type 1} → statement M

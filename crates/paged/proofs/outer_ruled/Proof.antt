@@ -1,5 +1,5 @@
 -- `paged::outer_ruled` meets its contract.
-use Rattle.rules.specs.Order.{outerRuled}
+use Rattle.rules.specs.Order.{outer_ruled}
 use Rattle.rules.proofs.Laws.RunLaws.{run-done}
 use mathlib.Core.Path.{sym}
 use borrow.Author.Rules.{rules}
@@ -28,11 +28,11 @@ outer-target-requires : tie.Need-outer-target-requires
 outer-target-requires c κs = search rules
 
 returns : tie.Need-returns
-unfolding outerRuled
+unfolding outer_ruled
 returns c = simp (run-done, c.ended.ensures, sym c.before.outer-fault.ensures, c.before.before.before.ruling.given.1)
 
 returns-2 : tie.Need-returns-2
-unfolding outerRuled
+unfolding outer_ruled
 returns-2 c = simp (sym c.outer-target.ensures, sym c.before.place_of.ensures, sym c.before.before.physical-at.ensures.0, c.before.before.before.before.ruling2.given.1)
 
 pub outer-ruled-spec : {M : Type 1} → statement M

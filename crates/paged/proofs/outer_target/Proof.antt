@@ -1,5 +1,5 @@
 -- `paged::outer_target` meets its contract.
-use Rattle.rules.specs.Order.{outerTarget}
+use Rattle.rules.specs.Order.{outer_target}
 use Rattle.rules.proofs.Laws.RunLaws.{run-done}
 use mathlib.Core.Path.{sym}
 use borrow.Author.Rules.{rules}
@@ -28,15 +28,15 @@ ended-requires : tie.Need-ended-requires
 ended-requires c κs = search rules
 
 returns : tie.Need-returns
-unfolding outerTarget
+unfolding outer_target
 returns c = simp (sym c.paged-reached.ensures, c.before.before.pl.given.1)
 
 returns-2 : tie.Need-returns-2
-unfolding outerTarget
+unfolding outer_target
 returns-2 c = simp (sym c.outer-window.ensures, c.before.enum_told.given.1)
 
 returns-3 : tie.Need-returns-3
-unfolding outerTarget
+unfolding outer_target
 returns-3 c = simp (run-done, c.ended.ensures, sym c.before.outer-fault.ensures, c.before.before.enum-told2.given.1)
 
 pub outer-target-spec : {M : Type 1} → statement M

@@ -1,5 +1,5 @@
 -- `paged::paged_from` meets its contract.
-use Rattle.rules.specs.Order.{pagedFrom}
+use Rattle.rules.specs.Order.{paged_from}
 use Rattle.rules.specs.Choice.{pick}
 use Rattle.rules.proofs.Laws.RunLaws.{run-done, run-ask}
 use mathlib.Core.Path.{sym}
@@ -17,7 +17,7 @@ ended-requires : tie.Need-ended-requires
 ended-requires c κs = search rules
 
 returns : tie.Need-returns
-unfolding pagedFrom pick
+unfolding paged_from pick
 returns c = simp (run-done, c.ended.ensures, sym c.before.outer-fault.ensures, c.before.before.if1.true, sym c.before.before.before.odd-word.ensures)
 
 page-of-requires : tie.Need-page-of-requires
@@ -36,7 +36,7 @@ outer-ruled-requires : tie.Need-outer-ruled-requires
 outer-ruled-requires c κs = search rules
 
 returns-2 : tie.Need-returns-2
-unfolding pagedFrom pick
+unfolding paged_from pick
 returns-2 c = simp (run-ask, sym c.outer-ruled.ensures, sym c.before.before.judged.ensures, sym c.before.before.before.watches.ensures, sym c.before.before.before.before.before.before.looked.ensures, sym c.before.before.before.before.before.before.before.page-of.ensures.0, c.before.before.before.before.before.before.before.before.before.if1.false, sym c.before.before.before.before.before.before.before.before.before.before.odd-word.ensures)
 
 pub paged-from-spec : {M : Type 1} → statement M

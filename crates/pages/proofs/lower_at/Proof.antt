@@ -1,6 +1,6 @@
 -- The place of a word in the lower half of a map page.
 use borrow.Author.Rules.{rules}
-use Rattle.rules.specs.Maps.{lowerAt}
+use Rattle.rules.specs.Maps.{lower_at}
 use Rattle.pages.proofs.lower_at.Statement.{statement}
 use Rattle.pages.proofs.lower_at.Tie as tie
 
@@ -14,7 +14,7 @@ add-result : tie.Need-overflow-add-result
 add-result c = search rules
 
 returns : tie.Need-returns
-unfolding lowerAt
+unfolding lower_at
 returns c = search rules
 
 pub lower-at-spec : {M : Type 1} → statement M

@@ -1,6 +1,6 @@
 -- A physical address, from its page and the offset.
 use borrow.Author.Rules.{rules}
-use Rattle.rules.specs.Maps.{low9, physicalAt}
+use Rattle.rules.specs.Maps.{low9, physical_at}
 use Rattle.pages.proofs.physical_at.Statement.{statement}
 use Rattle.pages.proofs.physical_at.Tie as tie
 
@@ -11,7 +11,7 @@ add-result : tie.Need-overflow-add-result
 add-result c = search rules
 
 returns : tie.Need-returns
-unfolding low9 physicalAt
+unfolding low9 physical_at
 returns c = search rules
 
 pub physical-at-spec : {M : Type 1} → statement M

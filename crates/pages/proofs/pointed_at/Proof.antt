@@ -1,6 +1,6 @@
 -- The place of the map word that a pointer leads to.
 use borrow.Author.Rules.{rules}
-use Rattle.rules.specs.Maps.{pointedAt}
+use Rattle.rules.specs.Maps.{pointed_at}
 use Rattle.pages.proofs.pointed_at.Statement.{statement}
 use Rattle.pages.proofs.pointed_at.Tie as tie
 
@@ -14,7 +14,7 @@ upper-at-requires : tie.Need-upper-at-requires
 upper-at-requires c κs = search rules
 
 returns : tie.Need-returns
-unfolding pointedAt
+unfolding pointed_at
 returns c = cc
 
 pub pointed-at-spec : {M : Type 1} → statement M

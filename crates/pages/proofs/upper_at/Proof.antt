@@ -1,6 +1,6 @@
 -- The place of a word in the upper half of a map page.
 use borrow.Author.Rules.{rules}
-use Rattle.rules.specs.Maps.{upperAt}
+use Rattle.rules.specs.Maps.{upper_at}
 use Rattle.pages.proofs.upper_at.Statement.{statement}
 use Rattle.pages.proofs.upper_at.Tie as tie
 
@@ -17,7 +17,7 @@ add-result-2 : tie.Need-overflow-add-result-2
 add-result-2 c = search rules
 
 returns : tie.Need-returns
-unfolding upperAt
+unfolding upper_at
 returns c = search rules
 
 pub upper-at-spec : {M : Type 1} → statement M

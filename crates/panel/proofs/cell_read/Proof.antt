@@ -1,6 +1,6 @@
 -- `panel::cell_read` meets its contract.
 use Rattle.rules.specs.Choice.{pick}
-use Rattle.panel.specs.Panel.{cellRead}
+use Rattle.panel.specs.Panel.{cell_read}
 use mathlib.Core.Path.{sym}
 use borrow.Author.Tests.{lt-ltb, le-ltb}
 use borrow.Author.Rules.{rules}
@@ -17,21 +17,21 @@ told-requires : tie.Need-told-requires
 told-requires c κs = search rules
 
 returns : tie.Need-returns
-unfolding cellRead pick
+unfolding cell_read pick
 returns c = simp (sym c.told.ensures, lt-ltb _ _ c.before.if2.true, sym c.before.before.cells_in.ensures.0, c.before.before.before.if1.true, sym c.before.before.before.before.is-unit.ensures)
 
 misshapen-requires : tie.Need-misshapen-requires
 misshapen-requires c κs = search rules
 
 returns-2 : tie.Need-returns-2
-unfolding cellRead pick
+unfolding cell_read pick
 returns-2 c = simp (sym c.misshapen.ensures, le-ltb _ _ c.before.if2.false, sym c.before.before.cells_in.ensures.0, c.before.before.before.if1.true, sym c.before.before.before.before.is-unit.ensures)
 
 no-unit-requires : tie.Need-no-unit-requires
 no-unit-requires c κs = search rules
 
 returns-3 : tie.Need-returns-3
-unfolding cellRead pick
+unfolding cell_read pick
 returns-3 c = simp (sym c.no-unit.ensures, c.before.if1.false, sym c.before.before.is-unit.ensures)
 
 pub cell-read-spec : {M : Type 1} → statement M

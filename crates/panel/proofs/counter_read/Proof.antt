@@ -1,6 +1,6 @@
 -- `panel::counter_read` meets its contract.
 use Rattle.rules.specs.Choice.{pick}
-use Rattle.panel.specs.Panel.{counterRead}
+use Rattle.panel.specs.Panel.{counter_read}
 use mathlib.Core.Path.{sym}
 use borrow.Author.Rules.{rules}
 use Rattle.panel.proofs.counter_read.Statement.{statement}
@@ -16,14 +16,14 @@ told-requires : tie.Need-told-requires
 told-requires c κs = search rules
 
 returns : tie.Need-returns
-unfolding counterRead pick
+unfolding counter_read pick
 returns c = simp (sym c.told.ensures, sym c.before.decoded.ensures, c.before.before.if1.true, sym c.before.before.before.is-unit.ensures)
 
 no-unit-requires : tie.Need-no-unit-requires
 no-unit-requires c κs = search rules
 
 returns-2 : tie.Need-returns-2
-unfolding counterRead pick
+unfolding counter_read pick
 returns-2 c = simp (sym c.no-unit.ensures, c.before.if1.false, sym c.before.before.is-unit.ensures)
 
 pub counter-read-spec : {M : Type 1} → statement M

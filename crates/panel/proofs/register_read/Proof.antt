@@ -1,7 +1,7 @@
 -- `panel::register_read` meets its contract.
 use Rattle.rules.specs.Choice.{pick}
 use Rattle.rules.proofs.Laws.Choices.{both_true}
-use Rattle.panel.specs.Panel.{registerRead}
+use Rattle.panel.specs.Panel.{register_read}
 use native.Mathlib.Omega.{arith}
 use lib.Dec.{ltb}
 use mathlib.Core.Path.{sym}
@@ -28,21 +28,21 @@ register-told-requires : tie.Need-register-told-requires
 register-told-requires c κs = search rules
 
 returns : tie.Need-returns
-unfolding registerRead pick
+unfolding register_read pick
 returns c = simp (sym c.register-told.ensures, sym c.before.register_of.ensures, sym c.before.before.decoded.ensures, c.before.before.before.if2.true, c.before.before.before.before.if1.true, sym c.before.before.before.before.before.is-unit.ensures)
 
 misshapen-requires : tie.Need-misshapen-requires
 misshapen-requires c κs = search rules
 
 returns-2 : tie.Need-returns-2
-unfolding registerRead pick
+unfolding register_read pick
 returns-2 c = simp (sym c.misshapen.ensures, c.before.if2.false, c.before.before.if1.true, sym c.before.before.before.is-unit.ensures)
 
 no-unit-requires : tie.Need-no-unit-requires
 no-unit-requires c κs = search rules
 
 returns-3 : tie.Need-returns-3
-unfolding registerRead pick
+unfolding register_read pick
 returns-3 c = simp (sym c.no-unit.ensures, c.before.if1.false, sym c.before.before.is-unit.ensures)
 
 pub register-read-spec : {M : Type 1} → statement M

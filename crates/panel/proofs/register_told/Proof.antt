@@ -1,5 +1,5 @@
 -- `panel::register_told` meets its contract.
-use Rattle.panel.specs.Panel.{registerTold}
+use Rattle.panel.specs.Panel.{register_told}
 use mathlib.Core.Path.{sym}
 use borrow.Author.Rules.{rules}
 use Rattle.panel.proofs.register_told.Statement.{statement}
@@ -12,7 +12,7 @@ told-requires : tie.Need-told-requires
 told-requires c κs = search rules
 
 returns : tie.Need-returns
-unfolding registerTold
+unfolding register_told
 returns c = simp (sym c.told.ensures, sym c.before.word_in.ensures)
 
 pub register-told-spec : {M : Type 1} → statement M

@@ -1,8 +1,8 @@
 -- `quick::attempted` meets its contract.
 use Rattle.rules.specs.Unit.{there}
-use Rattle.rules.specs.Maps.{execZero, tagOf, cell_of}
+use Rattle.rules.specs.Maps.{exec_zero, tag_of, cell_of}
 use mathlib.Core.Path.{sym, ap, ◌∙◌}
-use Rattle.quick.proofs.Sounds.{none-owed, attempt-owed}
+use Rattle.quick.proofs.Sounds.{none-owed, attempt_owed}
 use Rattle.rules.specs.declared.Cell.{Cell}
 use borrow.Author.Rules.{rules}
 use Rattle.quick.proofs.attempted.Statement.{statement}
@@ -49,9 +49,9 @@ returns-2 c =
     let user = at-start.c.ktcs.um in
     let page = c.before.before.before.before.before.before.before.before.before.before.page-of.ensures.0 in
     λ yes.
-    attempt-owed at-start.m.now at-start.q _ at-start.c yes at-start.k _ _
-    (sym (c.before.before.before.before.before.before.before.before.before.exec-zero.ensures ∙ ap (execZero user) page) ∙ c.before.before.before.before.before.before.before.before.if1.false)
-    (sym (c.before.before.before.before.before.cell-of.ensures ∙ ap (cell_of at-start.k) (c.before.before.before.before.before.before.tag_of.ensures ∙ ap (tagOf user) page)) ∙ c.before.before.before.i.given.1)
+    attempt_owed at-start.m.now at-start.q _ at-start.c yes at-start.k _ _
+    (sym (c.before.before.before.before.before.before.before.before.before.at_exec_zero.ensures ∙ ap (exec_zero user) page) ∙ c.before.before.before.before.before.before.before.before.if1.false)
+    (sym (c.before.before.before.before.before.cell-of.ensures ∙ ap (cell_of at-start.k) (c.before.before.before.before.before.before.tag_of.ensures ∙ ap (tag_of user) page)) ∙ c.before.before.before.i.given.1)
     (ap (λ (x : Cell). x.word) c.before.Cell-at.ensures) c.held.ensures
 
 returns-3 : tie.Need-returns-3

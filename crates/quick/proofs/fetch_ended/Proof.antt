@@ -1,8 +1,8 @@
 -- `quick::fetch_ended` meets its contract.
 use mathlib.Core.Path.{sym, ap, ◌∙◌}
-use Rattle.quick.proofs.Sounds.{none-owed, fetch-owed}
-use Rattle.rules.specs.Memory.{wordAt}
-use Rattle.rules.specs.Unit.{withFetch}
+use Rattle.quick.proofs.Sounds.{none-owed, fetch_owed}
+use Rattle.rules.specs.Memory.{word_at}
+use Rattle.rules.specs.Unit.{with_fetch}
 use borrow.Author.Rules.{rules}
 use Rattle.quick.proofs.fetch_ended.Statement.{statement}
 use Rattle.quick.proofs.fetch_ended.Tie as tie
@@ -33,9 +33,9 @@ ended-requires : tie.Need-ended-requires
 ended-requires c κs = search rules
 
 returns-2 : tie.Need-returns-2
-unfolding withFetch
+unfolding with_fetch
 returns-2 c =
-    λ k. fetch-owed _ _ _ _ k _ _ _ _ (c.before.before.before.before.before.before.word_at.ensures ∙ ap (wordAt _) c.before.before.before.before.before.before.before.even-of.ensures) (sym c.before.before.before.before.before.forbidden.ensures ∙ c.before.before.before.before.if1.false) (simp (c.before.after-fetch.ensures, c.before.before.public-bit.ensures)) c.ended.ensures
+    λ k. fetch_owed _ _ _ _ k _ _ _ _ (c.before.before.before.before.before.before.word_at.ensures ∙ ap (word_at _) c.before.before.before.before.before.before.before.even-of.ensures) (sym c.before.before.before.before.before.forbidden.ensures ∙ c.before.before.before.before.if1.false) (simp (c.before.after-fetch.ensures, c.before.before.public-bit.ensures)) c.ended.ensures
 
 pub fetch-ended-spec : {M : Type 1} → statement M
 fetch-ended-spec =

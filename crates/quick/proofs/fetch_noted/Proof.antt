@@ -1,5 +1,5 @@
 -- `quick::fetch_noted` meets its contract.
-use Rattle.quick.specs.Usual.{fetchNoted}
+use Rattle.quick.specs.Usual.{fetch_noted}
 use mathlib.Core.Path.{sym}
 use borrow.Author.Rules.{rules}
 use Rattle.quick.proofs.fetch_noted.Statement.{statement}
@@ -12,7 +12,7 @@ with-states-requires : tie.Need-with-states-requires
 with-states-requires c κs = search rules
 
 returns : tie.Need-returns
-unfolding fetchNoted
+unfolding fetch_noted
 returns c = simp (sym c.with-states.ensures, sym c.before.kept-stored.ensures)
 
 pub fetch-noted-spec : {M : Type 1} → statement M

@@ -1,8 +1,8 @@
 -- `quick::held` meets its contract.
 use mathlib.Core.Path.{sym, ap, ◌∙◌}
-use Rattle.quick.proofs.Sounds.{none-owed, held-owed}
+use Rattle.quick.proofs.Sounds.{none-owed, held_owed}
 use mathlib.Core.Bool.{Bool}
-use Rattle.rules.specs.Steps.{keysOf, judged}
+use Rattle.rules.specs.Steps.{keys_of, judged}
 use borrow.Author.Rules.{rules}
 use Rattle.quick.proofs.held.Statement.{statement}
 use Rattle.quick.proofs.held.Tie as tie
@@ -31,7 +31,7 @@ given-up-requires c κs = search rules
 returns : tie.Need-returns
 unfolding judged
 returns c =
-    λ calms k. held-owed c.before.before.before.before.before.before.before.before.before.args.m.now c.before.before.before.before.before.before.before.before.before.args.q _ c.before.before.before.before.before.before.before.before.before.args.c c.before.before.before.before.before.before.before.before.before.args.v _ _ calms (sym (c.before.before.before.before.before.keys_of.ensures ∙ ap (λ (b : Bool). keysOf c.before.before.before.before.before.before.before.before.before.args.q.op b c.before.before.before.before.before.before.before.before.before.args.v) c.before.before.before.before.before.before.watches.ensures) ∙ c.before.before.before.page.given.1) c.before.physical-at.ensures.0 k (c.reached.ensures calms k)
+    λ calms k. held_owed c.before.before.before.before.before.before.before.before.before.args.m.now c.before.before.before.before.before.before.before.before.before.args.q _ c.before.before.before.before.before.before.before.before.before.args.c c.before.before.before.before.before.before.before.before.before.args.v _ _ calms (sym (c.before.before.before.before.before.keys_of.ensures ∙ ap (λ (b : Bool). keys_of c.before.before.before.before.before.before.before.before.before.args.q.op b c.before.before.before.before.before.before.before.before.before.args.v) c.before.before.before.before.before.before.watches.ensures) ∙ c.before.before.before.page.given.1) c.before.physical-at.ensures.0 k (c.reached.ensures calms k)
 
 returns-2 : tie.Need-returns-2
 returns-2 c =

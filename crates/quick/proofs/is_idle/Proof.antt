@@ -1,5 +1,5 @@
 -- `quick::is_idle` meets its contract.
-use Rattle.quick.specs.Usual.{isIdle}
+use Rattle.quick.specs.Usual.{is_idle}
 use borrow.Author.Rules.{rules}
 use Rattle.quick.proofs.is_idle.Statement.{statement}
 use Rattle.quick.proofs.is_idle.Tie as tie
@@ -17,19 +17,19 @@ enum-told-4 : tie.Need-enum-told-4
 enum-told-4 c = search rules
 
 returns : tie.Need-returns
-unfolding isIdle
+unfolding is_idle
 returns c = simp c.enum_told.given.1
 
 returns-2 : tie.Need-returns-2
-unfolding isIdle
+unfolding is_idle
 returns-2 c = simp c.enum-told2.given.1
 
 returns-3 : tie.Need-returns-3
-unfolding isIdle
+unfolding is_idle
 returns-3 c = simp c.enum-told3.given.1
 
 returns-4 : tie.Need-returns-4
-unfolding isIdle
+unfolding is_idle
 returns-4 c = simp c.enum-told4.given.1
 
 pub is-idle-spec : {M : Type 1} → statement M

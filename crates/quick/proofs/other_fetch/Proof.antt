@@ -1,6 +1,6 @@
 -- `quick::other_fetch` meets its contract.
-use Rattle.rules.specs.Fetched.{isDato}
-use Rattle.quick.specs.Usual.{otherFetch}
+use Rattle.rules.specs.Fetched.{is_dato}
+use Rattle.quick.specs.Usual.{other_fetch}
 use mathlib.Core.Path.{sym}
 use borrow.Author.Rules.{rules}
 use Rattle.quick.proofs.other_fetch.Statement.{statement}
@@ -13,7 +13,7 @@ one-more-requires : tie.Need-one-more-requires
 one-more-requires c κs = search rules
 
 returns : tie.Need-returns
-unfolding otherFetch isDato
+unfolding other_fetch is_dato
 returns c = simp (sym c.one_more.ensures, sym c.before.one-more-if.ensures)
 
 pub other-fetch-spec : {M : Type 1} → statement M

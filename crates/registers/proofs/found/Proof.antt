@@ -1,6 +1,6 @@
 -- `registers::found` meets its contract.
 use Prim.Native.Nat.{◌-◌, ◌≤◌}
-use Rattle.rules.proofs.Laws.SearchLaws.{foundFrom-end, foundFrom-here, foundFrom-later}
+use Rattle.rules.proofs.Laws.SearchLaws.{found_from-end, found_from-here, found_from-later}
 use Rattle.rules.specs.Registers.{found_from}
 use borrow.Author.Rules.{rules}
 use lib.ListN.{drop, length}
@@ -24,7 +24,7 @@ shared-slice-read-if1 : tie.Need-shared-slice-read-if1 invariant-loop decreases-
 shared-slice-read-if1 c = search rules
 
 returns : tie.Need-returns invariant-loop decreases-loop
-returns c = sym (c.before.before.before.loop.invariant.1 ∙ foundFrom-here _ _ _ c.before.before.loop-test.true c.if1.true)
+returns c = sym (c.before.before.before.loop.invariant.1 ∙ found_from-here _ _ _ c.before.before.loop-test.true c.if1.true)
 
 add-i : tie.Need-overflow-add-i invariant-loop decreases-loop
 add-i c = search rules
@@ -33,10 +33,10 @@ loop-less : tie.Need-loop-smaller invariant-loop decreases-loop
 loop-less c = search rules
 
 loop-again : tie.Need-loop-preserved invariant-loop decreases-loop
-loop-again c = (search rules, c.before.before.before.loop.invariant.1 ∙ foundFrom-later _ _ _ c.before.before.loop-test.true c.if1.false)
+loop-again c = (search rules, c.before.before.before.loop.invariant.1 ∙ found_from-later _ _ _ c.before.before.loop-test.true c.if1.false)
 
 returns-2 : tie.Need-returns-2 invariant-loop decreases-loop
-returns-2 c = sym (c.before.loop.invariant.1 ∙ foundFrom-end _ _ _ (search rules))
+returns-2 c = sym (c.before.loop.invariant.1 ∙ found_from-end _ _ _ (search rules))
 
 pub found-spec : {M : Type 1} → statement M
 found-spec =

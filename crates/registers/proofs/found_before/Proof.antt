@@ -10,8 +10,8 @@ use Rattle.rules.specs.Registers.{found_from}
 use Rattle.registers.proofs.found_before.Statement.{statement}
 use Rattle.registers.proofs.found_before.Tie as tie
 
-whole-list : (l : List ℕ) (end x : ℕ) → length l < end → found_from 0 l x ≡ found_from 0 (take end l) x
-whole-list l end x h = ap (λ (k : List ℕ). found_from 0 k x) (sym (take_all end l (omega (arith, h))))
+whole_list : (l : List ℕ) (end x : ℕ) → length l < end → found_from 0 l x ≡ found_from 0 (take end l) x
+whole_list l end x h = ap (λ (k : List ℕ). found_from 0 k x) (sym (take_all end l (omega (arith, h))))
 
 slice-aggregate-found : tie.Need-slice-aggregate-found
 slice-aggregate-found c = sym (length-take-le _ _ c.before.if1.true)
@@ -26,7 +26,7 @@ returns : tie.Need-returns
 returns c = search rules
 
 returns-2 : tie.Need-returns-2
-returns-2 c = c.found2.ensures ∙ whole-list _ _ _ c.before.if1.false
+returns-2 c = c.found2.ensures ∙ whole_list _ _ _ c.before.if1.false
 
 pub found-before-spec : {M : Type 1} → statement M
 found-before-spec = tie.close (tie.spec slice-aggregate-found found-requires found-requires-2 returns returns-2)

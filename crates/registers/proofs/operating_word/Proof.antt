@@ -1,5 +1,5 @@
 -- `registers::operating_word` meets its contract.
-use Rattle.rules.specs.Registers.{operatingWord}
+use Rattle.rules.specs.Registers.{operating_word}
 use borrow.Author.Rules.{rules}
 use mathlib.Core.Path.{sym}
 use Rattle.registers.proofs.operating_word.Statement.{statement}
@@ -24,19 +24,19 @@ enum-told-3 : tie.Need-enum-told-3
 enum-told-3 c = search rules
 
 returns : tie.Need-returns
-unfolding operatingWord
+unfolding operating_word
 returns c = simp (sym c.packed.ensures, c.before.enum_told.given.1)
 
 returns-2 : tie.Need-returns-2
-unfolding operatingWord
+unfolding operating_word
 returns-2 c = simp (sym c.kept_word.ensures, c.before.before.before.g.given.1)
 
 returns-3 : tie.Need-returns-3
-unfolding operatingWord
+unfolding operating_word
 returns-3 c = simp c.enum-told2.given.1
 
 returns-4 : tie.Need-returns-4
-unfolding operatingWord
+unfolding operating_word
 returns-4 c = simp c.enum-told3.given.1
 
 pub operating-word-spec : {M : Type 1} → statement M

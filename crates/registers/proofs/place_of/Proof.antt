@@ -9,23 +9,23 @@ use borrow.Author.Tests.{le-ltb, lt-ltb}
 use Rattle.rules.specs.declared.Size.{Size}
 use Rattle.rules.specs.declared.Found.{Found}
 use Rattle.rules.specs.Choice.{pick}
-use Rattle.rules.specs.Memory.{evenOf}
-use Rattle.rules.specs.Unit.{countOf, room}
-use Rattle.rules.specs.Registers.{found_from, place_of, placeFound, registers, wordsFrom}
-use Rattle.rules.proofs.Laws.CellsLaws.{cells-fit-in}
-use Rattle.rules.proofs.Laws.PlaceLaws.{table-first}
+use Rattle.rules.specs.Memory.{even_of}
+use Rattle.rules.specs.Unit.{count_of, room}
+use Rattle.rules.specs.Registers.{found_from, place_of, place_found, registers, words_from}
+use Rattle.rules.proofs.Laws.CellsLaws.{cells_fit_in}
+use Rattle.rules.proofs.Laws.PlaceLaws.{table_first}
 use Rattle.registers.proofs.place_of.Statement.{statement}
 use Rattle.registers.proofs.place_of.Tie as tie
 
 -- what the search of that beginning comes to is what lies there, at or beyond the end of memory
 placed :
-    (s : Size) (len at count even : ℕ) (f : Found) → ltb at len ≡ false → count ≡ countOf s → even ≡ evenOf at
-    → f ≡ found_from 0 (take (11 + count) (registers room)) even → placeFound f ≡ place_of s len at
+    (s : Size) (len at count even : ℕ) (f : Found) → ltb at len ≡ false → count ≡ count_of s → even ≡ even_of at
+    → f ≡ found_from 0 (take (11 + count) (registers room)) even → place_found f ≡ place_of s len at
 unfolding place_of pick
 placed s len at count even f past counted evened found =
-    let same : f ≡ found_from 0 (registers (countOf s)) (evenOf at) =
-    found ∙ rw (counted, evened, table-first (countOf s) room (cells-fit-in s)) in
-    ap placeFound same ∙ sym (simp past)
+    let same : f ≡ found_from 0 (registers (count_of s)) (even_of at) =
+    found ∙ rw (counted, evened, table_first (count_of s) room (cells_fit_in s)) in
+    ap place_found same ∙ sym (simp past)
 
 returns : tie.Need-returns
 unfolding place_of pick
@@ -56,15 +56,15 @@ enum_told : tie.Need-enum-told
 enum_told c = search rules
 
 returns-2 : tie.Need-returns-2
-unfolding registers wordsFrom placeFound
+unfolding registers words_from place_found
 returns-2 c =
-    c.IsPlace-in.ensures ∙ ap placeFound (sym c.before.before.n.given.1)
+    c.IsPlace-in.ensures ∙ ap place_found (sym c.before.before.n.given.1)
     ∙ placed _ _ _ _ _ _ (le-ltb _ _ c.before.before.before.before.before.before.before.before.if1.false) c.before.before.before.before.before.before.before.count_of.ensures.0 c.before.before.before.before.before.even-of.ensures c.before.before.before.before.found_before.ensures
 
 returns-3 : tie.Need-returns-3
-unfolding registers wordsFrom placeFound
+unfolding registers words_from place_found
 returns-3 c =
-    ap placeFound (sym c.enum_told.given.1)
+    ap place_found (sym c.enum_told.given.1)
     ∙ placed _ _ _ _ _ _ (le-ltb _ _ c.before.before.before.before.before.before.if1.false) c.before.before.before.before.before.count_of.ensures.0 c.before.before.before.even-of.ensures c.before.before.found_before.ensures
 
 pub place-of-spec : {M : Type 1} → statement M

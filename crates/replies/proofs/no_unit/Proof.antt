@@ -1,5 +1,5 @@
 -- `replies::no_unit` meets its contract.
-use Rattle.replies.specs.Replies.{told, noUnit}
+use Rattle.replies.specs.Replies.{told, no_unit}
 use mathlib.Core.Path.{sym}
 use borrow.Author.Rules.{rules}
 use Rattle.replies.proofs.no_unit.Statement.{statement}
@@ -9,7 +9,7 @@ told-requires : tie.Need-told-requires
 told-requires c κs = search rules
 
 returns : tie.Need-returns
-unfolding noUnit
+unfolding no_unit
 returns c = simp (sym c.told.ensures)
 
 pub no-unit-spec : {M : Type 1} → statement M

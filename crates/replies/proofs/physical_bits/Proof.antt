@@ -1,5 +1,5 @@
 -- `replies::physical_bits` meets its contract.
-use Rattle.replies.specs.Replies.{physicalBits}
+use Rattle.replies.specs.Replies.{physical_bits}
 use borrow.Author.Rules.{rules}
 use Rattle.replies.proofs.physical_bits.Statement.{statement}
 use Rattle.replies.proofs.physical_bits.Tie as tie
@@ -17,11 +17,11 @@ enum_told : tie.Need-enum-told
 enum_told c = search rules
 
 returns : tie.Need-returns
-unfolding physicalBits
+unfolding physical_bits
 returns c = (simp c.before.p.given.1, search rules)
 
 returns-2 : tie.Need-returns-2
-unfolding physicalBits
+unfolding physical_bits
 returns-2 c = (simp c.enum_told.given.1, search rules)
 
 pub physical-bits-spec : {M : Type 1} → statement M

@@ -1,6 +1,6 @@
 -- `replies::replied` meets its contract.
 use mathlib.Core.Path.{sym}
-use Rattle.replies.specs.Replies.{replyWord}
+use Rattle.replies.specs.Replies.{reply_word}
 use borrow.Author.Rules.{rules}
 use Rattle.replies.proofs.replied.Statement.{statement}
 use Rattle.replies.proofs.replied.Tie as tie
@@ -12,7 +12,7 @@ reply-word-requires : tie.Need-reply-word-requires
 reply-word-requires c κs = search rules
 
 returns : tie.Need-returns
-unfolding replyWord
+unfolding reply_word
 returns c = simp (sym c.reply-word.ensures, sym c.before.shown.ensures)
 
 pub replied-spec : {M : Type 1} → statement M

@@ -1,5 +1,5 @@
 -- `replies::reply_word` meets its contract.
-use Rattle.replies.specs.Replies.{replyWord}
+use Rattle.replies.specs.Replies.{reply_word}
 use mathlib.Core.Path.{sym}
 use borrow.Author.Rules.{rules}
 use Rattle.replies.proofs.reply_word.Statement.{statement}
@@ -24,7 +24,7 @@ add-result-2 : tie.Need-overflow-add-result-2
 add-result-2 c = search rules
 
 returns : tie.Need-returns
-unfolding replyWord
+unfolding reply_word
 returns c = simp (sym c.before.physical-bits.ensures.0)
 
 pub reply-word-spec : {M : Type 1} → statement M

@@ -2,7 +2,7 @@
 use borrow.Author.Rules.{rules}
 use mathlib.Core.Path.{ap}
 use mathlib.Core.List.{append_assoc}
-use Rattle.rowtext.specs.Row.{badOf}
+use Rattle.rowtext.specs.Row.{bad_of}
 use Rattle.rowtext.specs.Written.{shown}
 use Rattle.rowtext.proofs.bad_line.Statement.{statement}
 use Rattle.rowtext.proofs.bad_line.Tie as tie
@@ -26,7 +26,7 @@ ahead-requires-4 : tie.Need-ahead-requires-4
 ahead-requires-4 c κs = search rules
 
 returns : tie.Need-returns
-unfolding badOf
+unfolding bad_of
 returns c = (
   simp (
     c.ahead4.ensures.holds,

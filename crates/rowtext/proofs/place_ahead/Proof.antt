@@ -1,7 +1,7 @@
 -- `rowtext::place_ahead` meets its contract, by the cases of the address.
 use borrow.Author.Rules.{rules}
 use native.Mathlib.Omega.{arith}
-use Rattle.rowtext.specs.Row.{addressText}
+use Rattle.rowtext.specs.Row.{address_text}
 use Rattle.rowtext.proofs.place_ahead.Statement.{statement}
 use Rattle.rowtext.proofs.place_ahead.Tie as tie
 
@@ -21,11 +21,11 @@ ahead-requires-2 : tie.Need-ahead-requires-2
 ahead-requires-2 c κs = search rules
 
 returns : tie.Need-returns
-unfolding addressText
+unfolding address_text
 returns c = simp c.before.before.physical.given.1 c.octal-ahead.ensures
 
 returns-2 : tie.Need-returns-2
-unfolding addressText
+unfolding address_text
 returns-2 c =
     simp c.before.before.enum_told.given.1
     (record {

@@ -7,19 +7,19 @@ use Rattle.rules.specs.Types.{Maps, Size, Cells, Unit, Call, Entry, Outcome}
 use Rattle.rules.specs.Memory.{Memory}
 use Rattle.rules.specs.Unit.{zero_unit}
 use Rattle.rules.specs.Maps.{looked}
-use Rattle.rules.specs.Program.{Prog, run, plainRun}
+use Rattle.rules.specs.Program.{Prog, run, plain_run}
 use Rattle.rules.specs.Order.{outcome}
-use Rattle.rules.specs.Calls.{called, initOf, cellsAfter, settled, call_of, fresh}
-use Rattle.rules.specs.Runs.{Seen, seenIn, seenAlong, stationAfter, plain_of, plainDecision, plainSettled, plainCall, plainIn, plainAlong, visit, visitsOf, peeks, storesPad, deedIn, deed_of, History, noneInUse, inUseAfter, heard, noneOutdated, allowed, meets, historyOf}
-use Rattle.rules.proofs.Laws.Choices.{true-is-not-false, both_true, both_false}
-use Rattle.rules.proofs.Demand3.Visits.{inUseAfter-append, noneOutdated-left, noneOutdated-right, noneOutdated-inUseAfter}
-use Rattle.rules.proofs.Demand3.Uses.{held-true}
+use Rattle.rules.specs.Calls.{called, init_of, cells_after, settled, call_of, fresh}
+use Rattle.rules.specs.Runs.{Seen, seen_in, seen_along, station_after, plain_of, plain_decision, plain_settled, plain_call, plain_in, plain_along, visit, visits_of, peeks, stores_pad, deed_in, deed_of, History, none_in_use, in_use_after, heard, none_outdated, allowed, meets, history_of}
+use Rattle.rules.proofs.Laws.Choices.{true_is_not_false, both_true, both_false}
+use Rattle.rules.proofs.Demand3.Visits.{in_use_after-append, none_outdated-left, none_outdated-right, none_outdated-in_use_after}
+use Rattle.rules.proofs.Demand3.Uses.{held_true}
 use Rattle.rules.proofs.Demand3.Always.{Always, ends, asks, peeks-at}
 use Rattle.rules.proofs.Demand3.Endings.{Ending, call_ends}
 use Rattle.rules.proofs.Demand3.Sound.{Sound, asked, effect-sound, emptied-sound}
-use Rattle.rules.proofs.Laws.Pages.{pageBy, nonzero-tag}
+use Rattle.rules.proofs.Laws.Pages.{page_by, nonzero_tag}
 use Rattle.rules.proofs.Sizes.{size-stays}
-use Rattle.rules.proofs.Demand3.Wellformed.{fresh-fit, station-fit}
+use Rattle.rules.proofs.Demand3.Wellformed.{fresh-fit, station_fit}
 use Rattle.rules.proofs.Promises.{CellsTrueAt, CellsTrueThroughout, SameAsPlain}
 
 -- One call -------------------------------------------------------------------------------------------------------------------------
@@ -28,65 +28,65 @@ module _ (P : Outcome → Type 0) (m : Memory) (r : Maps) where
   -- what a program comes to: an outcome that is P, the same one without cells, and the invariant
   record Same (p : Prog) (k : Cells) (h : History) : Type 0 where
     always : P (run m r p k).outcome
-    same : (run m r p k).outcome ≡ plainRun m r p
-    sound : Sound m r (run m r p k).cells (inUseAfter h (visitsOf m r p k))
+    same : (run m r p k).outcome ≡ plain_run m r p
+    sound : Sound m r (run m r p k).cells (in_use_after h (visits_of m r p k))
 
   same-run :
       {p : Prog} → Always P p → (k : Cells) (h : History) → Sound m r k h
-      → peeks m r p k ≡ false → noneOutdated h (visitsOf m r p k) ≡ true → Same p k h
-  unfolding run plainRun peeks visitsOf inUseAfter
+      → peeks m r p k ≡ false → none_outdated h (visits_of m r p k) ≡ true → Same p k h
+  unfolding run plain_run peeks visits_of in_use_after
   same-run (ends o) k h s e n = record { always = o; same = refl; sound = s }
   same-run (asks {user = user} {p = p} {f = f} b a) k h s e n =
       let vs = visit m r user p in
-      let ws = visitsOf m r (f (looked m r user p k).entry) (looked m r user p k).cells in
-      let q = asked m r k h s user p b (noneOutdated-left h vs ws n) in
-      let c = same-run (a (looked m r user p k).entry) (looked m r user p k).cells (inUseAfter h vs) q.sound e
-      (noneOutdated-inUseAfter h vs ws ∙ noneOutdated-right h vs ws n) in
+      let ws = visits_of m r (f (looked m r user p k).entry) (looked m r user p k).cells in
+      let q = asked m r k h s user p b (none_outdated-left h vs ws n) in
+      let c = same-run (a (looked m r user p k).entry) (looked m r user p k).cells (in_use_after h vs) q.sound e
+      (none_outdated-in_use_after h vs ws ∙ none_outdated-right h vs ws n) in
       record {
         always = c.always;
-        same = c.same ∙ ap (λ (x : Entry). plainRun m r (f x)) q.same;
-        sound = subst (Sound m r _) (sym (inUseAfter-append h vs ws)) c.sound;
+        same = c.same ∙ ap (λ (x : Entry). plain_run m r (f x)) q.same;
+        sound = subst (Sound m r _) (sym (in_use_after-append h vs ws)) c.sound;
       }
-  same-run (peeks-at a) k h s e n = true-is-not-false e
+  same-run (peeks-at a) k h s e n = true_is_not_false e
 
 module _ (m : Memory) (u : Unit) (h : History) (c : Call) (s : Sound m u.maps u.cells h) (a : allowed h (deed_of m u c) ≡ true) where
-  unreached : (peeks m u.maps (called m u.cells.size u.core u.maps c) u.cells ≡ false) × (storesPad (deed_of m u c).effect ≡ false)
-  unfolding allowed deed_of deedIn
-  unreached = both_false _ _ (not-true (deed_of m u c).reaches (both_true _ (noneOutdated h (deed_of m u c).visits) a).0)
+  unreached : (peeks m u.maps (called m u.cells.size u.core u.maps c) u.cells ≡ false) × (stores_pad (deed_of m u c).effect ≡ false)
+  unfolding allowed deed_of deed_in
+  unreached = both_false _ _ (not-true (deed_of m u c).reaches (both_true _ (none_outdated h (deed_of m u c).visits) a).0)
 
   call-run : Same (Ending u.core) m u.maps (called m u.cells.size u.core u.maps c) u.cells h
-  unfolding allowed deed_of deedIn
+  unfolding allowed deed_of deed_in
   call-run =
       same-run (Ending u.core) m u.maps (call_ends u.core m u.cells.size u.maps c) u.cells h s unreached.0
       (both_true (not (deed_of m u c).reaches) _ a).1
 
-  call_same : seenIn (call_of m u c) ≡ plainCall m (plain_of u) c
-  unfolding seenIn call_of settled plainCall plainSettled plainDecision plain_of
-  call_same = ap (plainSettled m u.maps) call-run.same
+  call_same : seen_in (call_of m u c) ≡ plain_call m (plain_of u) c
+  unfolding seen_in call_of settled plain_call plain_settled plain_decision plain_of
+  call_same = ap (plain_settled m u.maps) call-run.same
 
   call-sound :
       Sound (call_of m u c).memory (call_of m u c).reply.unit.maps (call_of m u c).reply.unit.cells (heard h (deed_of m u c))
-  unfolding call_of settled heard deed_of deedIn
+  unfolding call_of settled heard deed_of deed_in
   call-sound = effect-sound m u.maps _ _ _ call-run.always.even unreached.1 call-run.sound
 
 -- A run ----------------------------------------------------------------------------------------------------------------------------
 
 run-same :
     (m : Memory) (u : Unit) (h : History) (cs : List Call) → Sound m u.maps u.cells h → meets m u h cs ≡ true
-    → seenAlong m u cs ≡ plainAlong m (plain_of u) cs
-unfolding seenAlong plainAlong meets seenIn plainIn plain_of
+    → seen_along m u cs ≡ plain_along m (plain_of u) cs
+unfolding seen_along plain_along meets seen_in plain_in plain_of
 run-same m u h [] s e = refl
 run-same m u h (c ∷ cs) s e =
     let (a, b) = both_true (allowed h (deed_of m u c)) _ e in
     rw (← call_same m u h c s a)
-    (ap (λ (l : List Seen). seenIn (call_of m u c) ∷ l)
+    (ap (λ (l : List Seen). seen_in (call_of m u c) ∷ l)
     (run-same (call_of m u c).memory (call_of m u c).reply.unit (heard h (deed_of m u c)) cs (call-sound m u h c s a) b
-    ∙ ap (λ (x : Size). plainAlong (call_of m u c).memory (plainIn x (seenIn (call_of m u c))) cs) (size-stays m u c)))
+    ∙ ap (λ (x : Size). plain_along (call_of m u c).memory (plain_in x (seen_in (call_of m u c))) cs) (size-stays m u c)))
 
 run_sound :
     (m : Memory) (u : Unit) (h : History) (cs : List Call) → Sound m u.maps u.cells h → meets m u h cs ≡ true
-    → Sound (stationAfter m u cs).memory (stationAfter m u cs).unit.maps (stationAfter m u cs).unit.cells (historyOf m u h cs)
-unfolding stationAfter historyOf meets
+    → Sound (station_after m u cs).memory (station_after m u cs).unit.maps (station_after m u cs).unit.cells (history_of m u h cs)
+unfolding station_after history_of meets
 run_sound m u h [] s e = s
 run_sound m u h (c ∷ cs) s e =
     let (a, b) = both_true (allowed h (deed_of m u c)) _ e in
@@ -100,31 +100,31 @@ meets-prefix m u h (c ∷ cs) ds e =
     ap₂ (λ (x y : Bool). x && y) a (meets-prefix _ _ _ cs ds b)
 
 -- before the first call no page is in use, and all cells are empty
-fresh-sound : (s : Size) (m : Memory) → Sound m (fresh s).maps (fresh s).cells noneInUse
-unfolding fresh call_of settled run called initOf outcome cellsAfter noneInUse
+fresh-sound : (s : Size) (m : Memory) → Sound m (fresh s).maps (fresh s).cells none_in_use
+unfolding fresh call_of settled run called init_of outcome cells_after none_in_use
 fresh-sound s m = emptied-sound m (fresh s).maps (zero_unit s).cells
 
 -- Demand 3, second part --------------------------------------------------------------------------------------------------------------
 
 -- at the end of a run, and so after each of its calls
 cells-true :
-    (s : Size) (m : Memory) (cs : List Call) → meets m (fresh s) noneInUse cs ≡ true
-    → CellsTrueAt (stationAfter m (fresh s) cs) (historyOf m (fresh s) noneInUse cs)
+    (s : Size) (m : Memory) (cs : List Call) → meets m (fresh s) none_in_use cs ≡ true
+    → CellsTrueAt (station_after m (fresh s) cs) (history_of m (fresh s) none_in_use cs)
 cells-true s m cs e i z o =
-    let p = pageBy _ ((station-fit m (fresh s) cs (fresh-fit s)).cells.tags i) in
+    let p = page_by _ ((station_fit m (fresh s) cs (fresh-fit s)).cells.tags i) in
     record {
       user = p.user;
       page = p.page;
       below = p.below;
       tag = p.same;
       word =
-          held-true
-          ((run_sound m (fresh s) noneInUse cs (fresh-sound s m) e).held i p.user p.page p.below
-          (nonzero-tag p.user p.page (λ t. z (p.same ∙ t))) p.same) (rw p.same at o);
+          held_true
+          ((run_sound m (fresh s) none_in_use cs (fresh-sound s m) e).held i p.user p.page p.below
+          (nonzero_tag p.user p.page (λ t. z (p.same ∙ t))) p.same) (rw p.same at o);
     }
 
-pub cells-true-throughout : CellsTrueThroughout
-cells-true-throughout s m cs ds e = cells-true s m cs (meets-prefix m (fresh s) noneInUse cs ds e)
+pub cells_true_throughout : CellsTrueThroughout
+cells_true_throughout s m cs ds e = cells-true s m cs (meets-prefix m (fresh s) none_in_use cs ds e)
 
-pub same-as-plain : SameAsPlain
-same-as-plain s m cs e = run-same m (fresh s) noneInUse cs (fresh-sound s m) e
+pub same_as_plain : SameAsPlain
+same_as_plain s m cs e = run-same m (fresh s) none_in_use cs (fresh-sound s m) e

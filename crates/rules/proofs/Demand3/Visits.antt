@@ -6,43 +6,43 @@ use Prim.Native.Nat.{ℕ}
 use lib.Dec.{eqb}
 use borrow.Author.Tests.{eqb-true}
 use Rattle.rules.specs.Types.{Walk}
-use Rattle.rules.specs.Runs.{Visit, Use, History, usedBy, told, inUseAfter, isOutdated, noneOutdated}
+use Rattle.rules.specs.Runs.{Visit, Use, History, used_by, told, in_use_after, is_outdated, none_outdated}
 use Rattle.rules.proofs.Laws.Choices.{both_true, picked}
 use Rattle.rules.proofs.Demand3.Uses.{used-outdated}
 
-pub inUseAfter-append : (h : History) (vs ws : List Visit) → inUseAfter h (vs ++ ws) ≡ inUseAfter (inUseAfter h vs) ws
-unfolding inUseAfter
-inUseAfter-append h [] ws = refl
-inUseAfter-append h (v ∷ vs) ws = inUseAfter-append _ vs ws
+pub in_use_after-append : (h : History) (vs ws : List Visit) → in_use_after h (vs ++ ws) ≡ in_use_after (in_use_after h vs) ws
+unfolding in_use_after
+in_use_after-append h [] ws = refl
+in_use_after-append h (v ∷ vs) ws = in_use_after-append _ vs ws
 
 -- the premise of visits is that of each part
-pub noneOutdated-left : (h : History) (vs ws : List Visit) → noneOutdated h (vs ++ ws) ≡ true → noneOutdated h vs ≡ true
-unfolding noneOutdated
-noneOutdated-left h [] ws e = refl
-noneOutdated-left h (v ∷ vs) ws e =
-    let (a, b) = both_true (not (isOutdated (h v.tag))) (noneOutdated h (vs ++ ws)) e in
-    ap₂ (λ (x y : Bool). x && y) a (noneOutdated-left h vs ws b)
+pub none_outdated-left : (h : History) (vs ws : List Visit) → none_outdated h (vs ++ ws) ≡ true → none_outdated h vs ≡ true
+unfolding none_outdated
+none_outdated-left h [] ws e = refl
+none_outdated-left h (v ∷ vs) ws e =
+    let (a, b) = both_true (not (is_outdated (h v.tag))) (none_outdated h (vs ++ ws)) e in
+    ap₂ (λ (x y : Bool). x && y) a (none_outdated-left h vs ws b)
 
-pub noneOutdated-right : (h : History) (vs ws : List Visit) → noneOutdated h (vs ++ ws) ≡ true → noneOutdated h ws ≡ true
-unfolding noneOutdated
-noneOutdated-right h [] ws e = e
-noneOutdated-right h (v ∷ vs) ws e =
-    noneOutdated-right h vs ws (both_true (not (isOutdated (h v.tag))) (noneOutdated h (vs ++ ws)) e).1
+pub none_outdated-right : (h : History) (vs ws : List Visit) → none_outdated h (vs ++ ws) ≡ true → none_outdated h ws ≡ true
+unfolding none_outdated
+none_outdated-right h [] ws e = e
+none_outdated-right h (v ∷ vs) ws e =
+    none_outdated-right h vs ws (both_true (not (is_outdated (h v.tag))) (none_outdated h (vs ++ ws)) e).1
 
 -- coming into use makes no page outdated
-entering-outdates-none : (h : History) (w : Walk) (tag t : ℕ) → isOutdated (told h tag (usedBy w (h tag)) t) ≡ isOutdated (h t)
+entering_outdates_none : (h : History) (w : Walk) (tag t : ℕ) → is_outdated (told h tag (used_by w (h tag)) t) ≡ is_outdated (h t)
 unfolding told
-entering-outdates-none h w tag t =
-    picked (λ (u : Use). isOutdated u ≡ isOutdated (h t)) (eqb t tag) _ _
-    (λ e. used-outdated w (h tag) ∙ ap (λ (x : ℕ). isOutdated (h x)) (sym (eqb-true t tag e))) (λ e. refl)
+entering_outdates_none h w tag t =
+    picked (λ (u : Use). is_outdated u ≡ is_outdated (h t)) (eqb t tag) _ _
+    (λ e. used-outdated w (h tag) ∙ ap (λ (x : ℕ). is_outdated (h x)) (sym (eqb-true t tag e))) (λ e. refl)
 
-inUseAfter-outdates-none : (h : History) (vs : List Visit) (t : ℕ) → isOutdated (inUseAfter h vs t) ≡ isOutdated (h t)
-unfolding inUseAfter
-inUseAfter-outdates-none h [] t = refl
-inUseAfter-outdates-none h (v ∷ vs) t = inUseAfter-outdates-none _ vs t ∙ entering-outdates-none h v.walk v.tag t
+in_use_after-outdates_none : (h : History) (vs : List Visit) (t : ℕ) → is_outdated (in_use_after h vs t) ≡ is_outdated (h t)
+unfolding in_use_after
+in_use_after-outdates_none h [] t = refl
+in_use_after-outdates_none h (v ∷ vs) t = in_use_after-outdates_none _ vs t ∙ entering_outdates_none h v.walk v.tag t
 
-pub noneOutdated-inUseAfter : (h : History) (vs ws : List Visit) → noneOutdated (inUseAfter h vs) ws ≡ noneOutdated h ws
-unfolding noneOutdated
-noneOutdated-inUseAfter h vs [] = refl
-noneOutdated-inUseAfter h vs (w ∷ ws) =
-    ap₂ (λ (x y : Bool). not x && y) (inUseAfter-outdates-none h vs w.tag) (noneOutdated-inUseAfter h vs ws)
+pub none_outdated-in_use_after : (h : History) (vs ws : List Visit) → none_outdated (in_use_after h vs) ws ≡ none_outdated h ws
+unfolding none_outdated
+none_outdated-in_use_after h vs [] = refl
+none_outdated-in_use_after h vs (w ∷ ws) =
+    ap₂ (λ (x y : Bool). not x && y) (in_use_after-outdates_none h vs w.tag) (none_outdated-in_use_after h vs ws)

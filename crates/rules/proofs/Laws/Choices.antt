@@ -5,8 +5,8 @@ use Prim.Native.Nat.{ℕ}
 use native.Mathlib.Omega.{arith}
 use Rattle.rules.specs.Choice.{pick}
 
-pub true-is-not-false : {X : Type 0} → true ≡ false → X
-true-is-not-false e = absurd (let z : ◌≡◌ {A = ℕ} 0 1 = cc in omega arith)
+pub true_is_not_false : {X : Type 0} → true ≡ false → X
+true_is_not_false e = absurd (let z : ◌≡◌ {A = ℕ} 0 1 = cc in omega arith)
 
 pub both_true : (a b : Bool) → (a && b) ≡ true → (a ≡ true) × (b ≡ true)
 both_true true b e = (refl, e)
@@ -16,9 +16,9 @@ pub both_false : (a b : Bool) → (a || b) ≡ false → (a ≡ false) × (b ≡
 both_false true b e = (e, cc)
 both_false false b e = (refl, e)
 
-pub second-false : (a b : Bool) → (a && b) ≡ false → a ≡ true → b ≡ false
-second-false true b e t = e
-second-false false b e t = cc
+pub second_false : (a b : Bool) → (a && b) ≡ false → a ≡ true → b ≡ false
+second_false true b e t = e
+second_false false b e t = cc
 
 -- what holds of a, where the test says so, and of b, where it does not, holds of the choice
 pub picked : {A : Type 0} (P : A → Type 0) (t : Bool) (a b : A) → (t ≡ true → P a) → (t ≡ false → P b) → P (pick t a b)

@@ -8,23 +8,23 @@ use lib.ListN.{length, length-set, length-map, length-replicate}
 use borrow.Author.Tests.{ltb-true}
 use Rattle.rules.specs.Types.{Maps, Cells, Found, Part, Walk, Looked, Effect}
 use Rattle.rules.specs.Memory.{Memory}
-use Rattle.rules.specs.Unit.{countOf, room, there, emptyCell, emptied}
-use Rattle.rules.specs.Registers.{padStored}
-use Rattle.rules.specs.Maps.{execZero, walk_of, tagOf, cell_of, stepped, filled, filledBy, missed, soughtIn, looked, cellForgotten, forgotten}
+use Rattle.rules.specs.Unit.{count_of, room, there, empty_cell, emptied}
+use Rattle.rules.specs.Registers.{pad_stored}
+use Rattle.rules.specs.Maps.{exec_zero, walk_of, tag_of, cell_of, stepped, filled, filled_by, missed, sought_in, looked, cell_forgotten, forgotten}
 use Rattle.rules.specs.Program.{Prog, done, ask, peek, run}
-use Rattle.rules.specs.Calls.{cellsAfter}
+use Rattle.rules.specs.Calls.{cells_after}
 use Rattle.rules.proofs.Laws.Choices.{picked}
 use Rattle.rules.proofs.Laws.CellsLaws.{there-filled, there-stored, there-forgotten, there-emptied}
 use Rattle.rules.proofs.Promises.{NamesCell}
 
 module _ (n : ℕ) where
-  pub emptied-names : (k : Cells) → countOf k.size ≡ n → length (there k) ≡ n → length k.list ≡ room → 0 < n → NamesCell n (emptied k)
+  pub emptied-names : (k : Cells) → count_of k.size ≡ n → length (there k) ≡ n → length k.list ≡ room → 0 < n → NamesCell n (emptied k)
   unfolding emptied
   emptied-names k s e l some =
       record {
         size = s;
-        number = ap length (there-emptied k) ∙ length-replicate (length (there k)) emptyCell ∙ e;
-        listed = length-replicate (length k.list) emptyCell ∙ l;
+        number = ap length (there-emptied k) ∙ length-replicate (length (there k)) empty_cell ∙ e;
+        listed = length-replicate (length k.list) empty_cell ∙ l;
         from = omega arith;
         below = omega arith;
       }
@@ -34,15 +34,15 @@ module _ (n : ℕ) where
   forgotten-names k tag h =
       record {
         size = h.size;
-        number = ap length (there-forgotten k tag) ∙ length-map (there k) (cellForgotten tag) ∙ h.number;
-        listed = length-map k.list (cellForgotten tag) ∙ h.listed;
+        number = ap length (there-forgotten k tag) ∙ length-map (there k) (cell_forgotten tag) ∙ h.number;
+        listed = length-map k.list (cell_forgotten tag) ∙ h.listed;
         from = h.from;
         below = h.below;
       }
 
-  pub padStored-names : (k : Cells) (i : ℕ) (p : Part) (v : ℕ) → NamesCell n k → NamesCell n (padStored k i p v)
-  unfolding padStored
-  padStored-names k i p v h =
+  pub pad_stored-names : (k : Cells) (i : ℕ) (p : Part) (v : ℕ) → NamesCell n k → NamesCell n (pad_stored k i p v)
+  unfolding pad_stored
+  pad_stored-names k i p v h =
       record {
         size = h.size;
         number = ap length (there-stored k i p v) ∙ length-set (there k) i _ ∙ h.number;
@@ -69,22 +69,22 @@ module _ (n : ℕ) where
           (picked (λ (x : ℕ). (0o10 ≤ x) × (x < 0o10 + n)) (ltb k.counter (0o7 + n)) _ _
           (λ t. omega (arith, h.from, ltb-true k.counter (0o7 + n) t)) (λ t. omega (arith, h.from, h.below)))
 
-  filledBy-names : (k : Cells) (tag : ℕ) (w : Walk) → NamesCell n k → NamesCell n (filledBy k tag w)
-  unfolding filledBy
-  filledBy-names k tag (Walk.Finished w rs) h = filled-names k tag w h
-  filledBy-names k tag Walk.Off h = h
+  filled_by-names : (k : Cells) (tag : ℕ) (w : Walk) → NamesCell n k → NamesCell n (filled_by k tag w)
+  unfolding filled_by
+  filled_by-names k tag (Walk.Finished w rs) h = filled-names k tag w h
+  filled_by-names k tag Walk.Off h = h
 
-  sought-names :
-      (m : Memory) (r : Maps) (user : Bool) (p : ℕ) (k : Cells) (f : Found) → NamesCell n k → NamesCell n (soughtIn m r user p k f).cells
-  unfolding soughtIn missed
-  sought-names m r user p k (Found.At i) h = h
-  sought-names m r user p k Found.Missing h = filledBy-names k (tagOf user p) (walk_of m r user p) h
+  sought_names :
+      (m : Memory) (r : Maps) (user : Bool) (p : ℕ) (k : Cells) (f : Found) → NamesCell n k → NamesCell n (sought_in m r user p k f).cells
+  unfolding sought_in missed
+  sought_names m r user p k (Found.At i) h = h
+  sought_names m r user p k Found.Missing h = filled_by-names k (tag_of user p) (walk_of m r user p) h
 
   looked-names : (m : Memory) (r : Maps) (user : Bool) (p : ℕ) (k : Cells) → NamesCell n k → NamesCell n (looked m r user p k).cells
   unfolding looked
   looked-names m r user p k h =
-      picked (λ (l : Looked). NamesCell n l.cells) (execZero user p) _ _ (λ t. h)
-      (λ t. sought-names m r user p k (cell_of k (tagOf user p)) h)
+      picked (λ (l : Looked). NamesCell n l.cells) (exec_zero user p) _ _ (λ t. h)
+      (λ t. sought_names m r user p k (cell_of k (tag_of user p)) h)
 
   pub run-names : (m : Memory) (r : Maps) (p : Prog) (k : Cells) → NamesCell n k → NamesCell n (run m r p k).cells
   unfolding run
@@ -93,11 +93,11 @@ module _ (n : ℕ) where
       run-names m r (f (looked m r user p k).entry) (looked m r user p k).cells (looked-names m r user p k h)
   run-names m r (peek g f) k h = run-names m r (f _) k h
 
-  pub effect-names : (e : Effect) (k : Cells) → NamesCell n k → NamesCell n (cellsAfter e k)
-  unfolding cellsAfter
+  pub effect-names : (e : Effect) (k : Cells) → NamesCell n k → NamesCell n (cells_after e k)
+  unfolding cells_after
   effect-names Effect.Keep k h = h
   effect-names (Effect.Forget tag) k h = forgotten-names k tag h
   effect-names (Effect.Reload r) k h = emptied-names k h.size h.number h.listed (omega (arith, h.from, h.below))
   effect-names (Effect.StoreWord at v) k h = h
   effect-names (Effect.StoreByte at v) k h = h
-  effect-names (Effect.StorePad i p v) k h = padStored-names k i p v h
+  effect-names (Effect.StorePad i p v) k h = pad_stored-names k i p v h

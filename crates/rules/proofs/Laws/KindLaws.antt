@@ -22,18 +22,18 @@ between-not : (a b w : ℕ) → (a ≤ w → w ≤ b → ⊥) → between a b w 
 unfolding between
 between-not a b w n = both (leb a w) (leb w b) (λ s t. n (leb-true _ _ s) (leb-true _ _ t))
 
-pub jsr-word : (w : ℕ) → 0o004000 ≤ w → w ≤ 0o004777 → Kind.Jsr ≡ kind_of w
+pub jsr_word : (w : ℕ) → 0o004000 ≤ w → w ≤ 0o004777 → Kind.Jsr ≡ kind_of w
 unfolding kind_of pick
-jsr-word w l h = simp (between_in 0o004000 0o004777 w l h)
+jsr_word w l h = simp (between_in 0o004000 0o004777 w l h)
 
-pub rts-word : (w : ℕ) → 0o000200 ≤ w → w ≤ 0o000207 → Kind.Rts ≡ kind_of w
+pub rts_word : (w : ℕ) → 0o000200 ≤ w → w ≤ 0o000207 → Kind.Rts ≡ kind_of w
 unfolding kind_of pick
-rts-word w l h =
+rts_word w l h =
     simp (between-not 0o004000 0o004777 w (λ a b. omega arith), between_in 0o000200 0o000207 w l h)
 
-pub trap-word : (w : ℕ) → 0o104400 ≤ w → w ≤ 0o104777 → Kind.Trap ≡ kind_of w
+pub trap_word : (w : ℕ) → 0o104400 ≤ w → w ≤ 0o104777 → Kind.Trap ≡ kind_of w
 unfolding kind_of pick
-trap-word w l h =
+trap_word w l h =
     simp (
       between-not 0o004000 0o004777 w (λ a b. omega arith),
       between-not 0o000200 0o000207 w (λ a b. omega arith),

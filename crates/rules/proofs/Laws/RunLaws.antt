@@ -8,7 +8,7 @@ use Rattle.rules.specs.Memory.{Memory}
 use Rattle.rules.specs.Registers.{peeked}
 use Rattle.rules.specs.Maps.{looked}
 use Rattle.rules.specs.Program.{Prog, done, ask, peek, run}
-use Rattle.rules.specs.Order.{Source, at-hand, in_cells, sourceAt, readFrom, readAt, wordFrom, wordRead}
+use Rattle.rules.specs.Order.{Source, at-hand, in_cells, source_at, read_from, read_at, word_from, word_read}
 
 pub run-done : (m : Memory) (r : Maps) (o : Outcome) (k : Cells) → run m r (done o) k ≡ record { outcome = o; cells = k }
 unfolding run
@@ -31,14 +31,14 @@ unfolding pick
 run-pick m r true p q k = refl
 run-pick m r false p q k = refl
 
-run-readFrom :
-    (m : Memory) (r : Maps) (s : Source) (f : ℕ → Prog) (k : Cells) → run m r (readFrom s f) k ≡ run m r (f (wordFrom k s)) k
-unfolding readFrom wordFrom run
-run-readFrom m r (at-hand w) f k = refl
-run-readFrom m r (in_cells g) f k = refl
+run-read_from :
+    (m : Memory) (r : Maps) (s : Source) (f : ℕ → Prog) (k : Cells) → run m r (read_from s f) k ≡ run m r (f (word_from k s)) k
+unfolding read_from word_from run
+run-read_from m r (at-hand w) f k = refl
+run-read_from m r (in_cells g) f k = refl
 
-pub run-readAt :
+pub run-read_at :
     (m : Memory) (r : Maps) (j : Job) (at : ℕ) (t : Target) (f : ℕ → Prog) (k : Cells)
-    → run m r (readAt m j at t f) k ≡ run m r (f (wordRead m j k at t)) k
-unfolding readAt wordRead
-run-readAt m r j at t f k = run-readFrom m r (sourceAt m j at t) f k
+    → run m r (read_at m j at t f) k ≡ run m r (f (word_read m j k at t)) k
+unfolding read_at word_read
+run-read_at m r j at t f k = run-read_from m r (source_at m j at t) f k

@@ -10,36 +10,36 @@ use lib.ListN.{length, get_or, drop}
 use lib.Seq.{drop-cons, drop-length}
 use Rattle.rules.specs.Types.{Found}
 use Rattle.rules.specs.Choice.{pick}
-use Rattle.rules.specs.Registers.{found_from, isFound, among}
+use Rattle.rules.specs.Registers.{found_from, is_found, among}
 
-pub foundFrom-here : (l : List ℕ) (i x : ℕ) → i < length l → x ≡ get_or l i 0 → found_from i (drop i l) x ≡ Found.At i
+pub found_from-here : (l : List ℕ) (i x : ℕ) → i < length l → x ≡ get_or l i 0 → found_from i (drop i l) x ≡ Found.At i
 unfolding found_from pick
-foundFrom-here l i x h e = rw (drop-cons l i 0 h) (simp (eq-eqb _ _ e))
+found_from-here l i x h e = rw (drop-cons l i 0 h) (simp (eq-eqb _ _ e))
 
-pub foundFrom-later : (l : List ℕ) (i x : ℕ) → i < length l → (x ≡ get_or l i 0 → ⊥)
+pub found_from-later : (l : List ℕ) (i x : ℕ) → i < length l → (x ≡ get_or l i 0 → ⊥)
     → found_from i (drop i l) x ≡ found_from (i + 1) (drop (i + 1) l) x
 unfolding found_from pick
-foundFrom-later l i x h n = rw (drop-cons l i 0, add-one i) (simp (ne_eqb _ _ n))
+found_from-later l i x h n = rw (drop-cons l i 0, add-one i) (simp (ne_eqb _ _ n))
 
-pub foundFrom-end : (l : List ℕ) (i x : ℕ) → i ≡ length l → found_from i (drop i l) x ≡ Found.Missing
+pub found_from-end : (l : List ℕ) (i x : ℕ) → i ≡ length l → found_from i (drop i l) x ≡ Found.Missing
 unfolding found_from
-foundFrom-end l i x e = rw (e, drop-length l)
+found_from-end l i x e = rw (e, drop-length l)
 
 -- whether something is found does not go by the number from which one counts
-found-by : (t : Bool) (i j : ℕ) (a b : Found) → isFound a ≡ isFound b → isFound (pick t (Found.At i) a) ≡ isFound (pick t (Found.At j) b)
-unfolding isFound pick
-found-by true i j a b e = refl
-found-by false i j a b e = e
+found_by : (t : Bool) (i j : ℕ) (a b : Found) → is_found a ≡ is_found b → is_found (pick t (Found.At i) a) ≡ is_found (pick t (Found.At j) b)
+unfolding is_found pick
+found_by true i j a b e = refl
+found_by false i j a b e = e
 
-found-from : (ys : List ℕ) (i j x : ℕ) → isFound (found_from i ys x) ≡ isFound (found_from j ys x)
+found_from-any_start : (ys : List ℕ) (i j x : ℕ) → is_found (found_from i ys x) ≡ is_found (found_from j ys x)
 unfolding found_from
-found-from [] i j x = refl
-found-from (y ∷ ys) i j x = found-by (eqb x y) i j _ _ (found-from ys (suc i) (suc j) x)
+found_from-any_start [] i j x = refl
+found_from-any_start (y ∷ ys) i j x = found_by (eqb x y) i j _ _ (found_from-any_start ys (suc i) (suc j) x)
 
 pub among_first : (x y : ℕ) (ys : List ℕ) → among x (y ∷ ys) ≡ (eqb x y || among x ys)
-unfolding among found_from isFound pick
+unfolding among found_from is_found pick
 among_first x y ys = go (eqb x y)
   where
-    go : (t : Bool) → isFound (pick t (Found.At 0) (found_from 1 ys x)) ≡ (t || isFound (found_from 0 ys x))
+    go : (t : Bool) → is_found (pick t (Found.At 0) (found_from 1 ys x)) ≡ (t || is_found (found_from 0 ys x))
     go true = refl
-    go false = found-from ys 1 0 x
+    go false = found_from-any_start ys 1 0 x

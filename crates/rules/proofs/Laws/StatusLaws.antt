@@ -8,7 +8,7 @@ use lib.Dec.{eqb}
 use borrow.Author.Tests.{eq-eqb, ne_eqb, eqb-true, eqb-false}
 use Rattle.rules.specs.Types.{Ktcs}
 use Rattle.rules.specs.Choice.{pick}
-use Rattle.rules.specs.Status.{bit_of, bitIn, packed, unpacked}
+use Rattle.rules.specs.Status.{bit_of, bit_in, packed, unpacked}
 
 -- a bit's worth, as a number that is 0 or 1
 abbrev one : Bool → ℕ
@@ -19,20 +19,20 @@ one-small : (b : Bool) → one b ≤ 1
 one-small true = omega arith
 one-small false = omega arith
 
-bitOf-one : (b : Bool) (v : ℕ) → bit_of b v ≡ v * one b
+bit_of-one : (b : Bool) (v : ℕ) → bit_of b v ≡ v * one b
 unfolding bit_of pick
-bitOf-one true v = omega arith
-bitOf-one false v = omega arith
+bit_of-one true v = omega arith
+bit_of-one false v = omega arith
 
-eqb-one : (b : Bool) (n : ℕ) → n ≡ one b → eqb n 1 ≡ b
-eqb-one true n h = eq-eqb n 1 h
-eqb-one false n h = ne_eqb n 1 (λ e. omega arith)
+eqb_one : (b : Bool) (n : ℕ) → n ≡ one b → eqb n 1 ≡ b
+eqb_one true n h = eq-eqb n 1 h
+eqb_one false n h = ne_eqb n 1 (λ e. omega arith)
 
 packed-sum : (s : Ktcs) →
     packed s ≡ s.fcn % 4 + 0o4 * one s.ss + 0o10 * one s.ds + 0o20 * one s.um + 0o40 * one s.iu + 0o4000 * one s.rv
     + 0o10000 * one s.pv + 0o20000 * one s.wv + 0o40000 * one s.av + 0o100000 * one s.iv
 unfolding packed
-packed-sum s = simp bitOf-one
+packed-sum s = simp bit_of-one
 
 -- the digits of such a sum, the bits being 0 or 1 and f below 4: what `unpacked` takes out
 digits :
@@ -56,26 +56,26 @@ packed-zeros s =
 
 -- There and back: what was packed is unpacked as it was.
 pub unpacked-packed : (s : Ktcs) → s.fcn < 4 → unpacked (packed s) ≡ s
-unfolding unpacked bitIn
+unfolding unpacked bit_in
 unpacked-packed s small =
     let d = digits (s.fcn % 4) (one s.ss) (one s.ds) (one s.um) (one s.iu) (one s.rv) (one s.pv) (one s.wv) (one s.av) (one s.iv) (packed s)
     (omega arith) (one-small s.ss) (one-small s.ds) (one-small s.um) (one-small s.iu) (one-small s.rv) (one-small s.pv) (one-small s.wv) (one-small s.av) (one-small s.iv) (packed-sum s) in
     λ i.
     record {
-      fcn = fcn-same d.0 i;
-      ss = eqb-one s.ss (packed s / 0o4 % 2) d.1 i;
-      ds = eqb-one s.ds (packed s / 0o10 % 2) d.2 i;
-      um = eqb-one s.um (packed s / 0o20 % 2) d.3 i;
-      iu = eqb-one s.iu (packed s / 0o40 % 2) d.4 i;
-      rv = eqb-one s.rv (packed s / 0o4000 % 2) d.5 i;
-      pv = eqb-one s.pv (packed s / 0o10000 % 2) d.6 i;
-      wv = eqb-one s.wv (packed s / 0o20000 % 2) d.7 i;
-      av = eqb-one s.av (packed s / 0o40000 % 2) d.8 i;
-      iv = eqb-one s.iv (packed s / 0o100000 % 2) d.9 i;
+      fcn = fcn_same d.0 i;
+      ss = eqb_one s.ss (packed s / 0o4 % 2) d.1 i;
+      ds = eqb_one s.ds (packed s / 0o10 % 2) d.2 i;
+      um = eqb_one s.um (packed s / 0o20 % 2) d.3 i;
+      iu = eqb_one s.iu (packed s / 0o40 % 2) d.4 i;
+      rv = eqb_one s.rv (packed s / 0o4000 % 2) d.5 i;
+      pv = eqb_one s.pv (packed s / 0o10000 % 2) d.6 i;
+      wv = eqb_one s.wv (packed s / 0o20000 % 2) d.7 i;
+      av = eqb_one s.av (packed s / 0o40000 % 2) d.8 i;
+      iv = eqb_one s.iv (packed s / 0o100000 % 2) d.9 i;
     }
   where
-    fcn-same : packed s % 4 ≡ s.fcn % 4 → packed s % 4 ≡ s.fcn
-    fcn-same e = omega arith
+    fcn_same : packed s % 4 ≡ s.fcn % 4 → packed s % 4 ≡ s.fcn
+    fcn_same e = omega arith
 
 one_bit : (n : ℕ) → n < 2 → one (eqb n 1) ≡ n
 one_bit n h = go (eqb n 1) refl
@@ -84,11 +84,11 @@ one_bit n h = go (eqb n 1) refl
     go true e = rw e (sym (eqb-true n 1 e))
     go false e = rw e (omega (arith, eqb-false n 1 e))
 
-one-mod-2 : (n : ℕ) → one (eqb (n % 2) 1) ≡ n % 2
-one-mod-2 n = one_bit (n % 2) (omega arith)
+one_mod_2 : (n : ℕ) → one (eqb (n % 2) 1) ≡ n % 2
+one_mod_2 n = one_bit (n % 2) (omega arith)
 
-four-twice : (w : ℕ) → w % 4 % 4 ≡ w % 4
-four-twice w = omega arith
+four_twice : (w : ℕ) → w % 4 % 4 ≡ w % 4
+four_twice w = omega arith
 
 -- a number's multiple of v, less its digit there, is its multiple of twice v
 halves : (w v : ℕ) → v * (w / v) ≡ v * (w / v % 2) + v * 2 * (w / (v * 2))
@@ -106,8 +106,8 @@ summed :
     q₁₄ ≡ k + q₁₅ → q₁₅ ≡ l + q₁₆ → q₁₆ ≡ 0 → f + a + b + c + d + e + g + h + k + l ≡ w
 summed w f a b c d e g h k l q₂ q₃ q₄ q₅ q₆ q₁₁ q₁₂ q₁₃ q₁₄ q₁₅ q₁₆ e₀ e₁ e₂ e₃ e₄ e₅ e₆ e₇ e₈ e₉ e₁₀ e₁₁ = omega arith
 
-by-four : (w : ℕ) → w ≡ w % 4 + 4 * (w / 4)
-by-four w = omega arith
+by_four : (w : ℕ) → w ≡ w % 4 + 4 * (w / 4)
+by_four w = omega arith
 
 none_between : (w : ℕ) → w / 0o100 % 0o40 ≡ 0 → 0o100 * (w / 0o100) ≡ 0o4000 * (w / 0o4000)
 none_between w zeros = omega arith
@@ -117,9 +117,9 @@ none-past w small = omega arith
 
 -- Back and there: a word in which only KTCS's own bits stand is what its fields pack into. Bits 10 to 6 "read 0".
 pub packed-unpacked : (w : ℕ) → w < 0o200000 → w / 0o100 % 0o40 ≡ 0 → packed (unpacked w) ≡ w
-unfolding unpacked bitIn
+unfolding unpacked bit_in
 packed-unpacked w small zeros =
     packed-sum (unpacked w)
-    ∙ simp (one-mod-2, four-twice)
-    (summed w _ _ _ _ _ _ _ _ _ _ _ _ _ _ _ _ _ _ _ _ _ (by-four w) (halves w 0o4) (halves w 0o10) (halves w 0o20) (halves w 0o40)
+    ∙ simp (one_mod_2, four_twice)
+    (summed w _ _ _ _ _ _ _ _ _ _ _ _ _ _ _ _ _ _ _ _ _ (by_four w) (halves w 0o4) (halves w 0o10) (halves w 0o20) (halves w 0o40)
     (none_between w zeros) (halves w 0o4000) (halves w 0o10000) (halves w 0o20000) (halves w 0o40000) (halves w 0o100000) (none-past w small))

@@ -10,8 +10,8 @@ use lib.ListN.{length}
 use borrow.Author.Tests.{leb-true, le-leb, lt-leb, lt-ltb, le-ltb}
 use Rattle.rules.specs.Types.{Maps, Reads, Walk}
 use Rattle.rules.specs.Choice.{pick}
-use Rattle.rules.specs.Memory.{Memory, wordAt}
-use Rattle.rules.specs.Maps.{low9, high7, simple, upperAt, lowerAt, pointedAt, unlessOff, wordWalk, followed, pointerWalk, execWalk, userWalk, walk_of}
+use Rattle.rules.specs.Memory.{Memory, word_at}
+use Rattle.rules.specs.Maps.{low9, high7, simple, upper_at, lower_at, pointed_at, unless_off, word_walk, followed, pointer_walk, exec_walk, user_walk, walk_of}
 use Rattle.rules.proofs.Laws.Choices.{pick_true, pick-false}
 
 -- of every map register and page
@@ -23,41 +23,41 @@ pub record Boundary : Type 0 where
   -- "N=127 means all"
   pub all : (r p : ℕ) → high7 r ≡ 127 → p < 128 → simple r p ≡ true
   -- N is the last simple page, and the next is the first beyond
-  pub first-beyond : (r : ℕ) → (simple r (high7 r) ≡ true) × (simple r (high7 r + 1) ≡ false)
+  pub first_beyond : (r : ℕ) → (simple r (high7 r) ≡ true) × (simple r (high7 r + 1) ≡ false)
   -- "with N=4, page 4 is simple and page 5 is the first beyond": KTUM 004005o
-  pub with-four : (simple 0o004005 4 ≡ true) × (simple 0o004005 5 ≡ false)
+  pub with_four : (simple 0o004005 4 ≡ true) × (simple 0o004005 5 ≡ false)
 
 -- Of every memory, map registers and page. No access walks exec page 0 (`ExecZeroUncelled`); the rows hold of its number too.
 pub record WalksByBoundary : Type 0 where
   -- exec pages go by KTEM's N: up to it the map word is at 512·M(KTEM)+256+2p, beyond it at 512·M(KTUM)+2p
-  pub exec-simple :
-      (m : Memory) (r : Maps) (p : ℕ) → p ≤ high7 r.ktem → walk_of m r false p ≡ wordWalk m (512 * low9 r.ktem + 256 + 2 * p)
-  pub exec-per-process :
-      (m : Memory) (r : Maps) (p : ℕ) → high7 r.ktem < p → walk_of m r false p ≡ wordWalk m (512 * low9 r.ktum + 2 * p)
+  pub exec_simple :
+      (m : Memory) (r : Maps) (p : ℕ) → p ≤ high7 r.ktem → walk_of m r false p ≡ word_walk m (512 * low9 r.ktem + 256 + 2 * p)
+  pub exec_per_process :
+      (m : Memory) (r : Maps) (p : ℕ) → high7 r.ktem < p → walk_of m r false p ≡ word_walk m (512 * low9 r.ktum + 2 * p)
   -- user pages go by KTUM's N: the word at 512·M(KTUM)+256+2p is the map word up to it, and a pointer beyond
-  pub user-simple :
-      (m : Memory) (r : Maps) (p : ℕ) → p ≤ high7 r.ktum → walk_of m r true p ≡ wordWalk m (512 * low9 r.ktum + 256 + 2 * p)
-  pub user-shared :
-      (m : Memory) (r : Maps) (p : ℕ) → high7 r.ktum < p → walk_of m r true p ≡ pointerWalk m (512 * low9 r.ktum + 256 + 2 * p)
+  pub user_simple :
+      (m : Memory) (r : Maps) (p : ℕ) → p ≤ high7 r.ktum → walk_of m r true p ≡ word_walk m (512 * low9 r.ktum + 256 + 2 * p)
+  pub user_shared :
+      (m : Memory) (r : Maps) (p : ℕ) → high7 r.ktum < p → walk_of m r true p ≡ pointer_walk m (512 * low9 r.ktum + 256 + 2 * p)
 
 -- Of every memory and place: what a walk comes to that reads a map word there, or a pointer. A word at or beyond L is not there (T-01: the walk ran off memory).
 pub record WordsRead : Type 0 where
-  pub word : (m : Memory) (at : ℕ) → at < length m → wordWalk m at ≡ Walk.Finished (wordAt m at) (Reads.Direct at)
-  pub word-off : (m : Memory) (at : ℕ) → length m ≤ at → wordWalk m at ≡ Walk.Off
+  pub word : (m : Memory) (at : ℕ) → at < length m → word_walk m at ≡ Walk.Finished (word_at m at) (Reads.Direct at)
+  pub word_off : (m : Memory) (at : ℕ) → length m ≤ at → word_walk m at ≡ Walk.Off
   -- a pointer's high 7 bits are an entry's number and no boundary: "the map word is at 512·m+256+2n"
-  pub pointer : (w : ℕ) → pointedAt w ≡ 512 * low9 w + 256 + 2 * high7 w
+  pub pointer : (w : ℕ) → pointed_at w ≡ 512 * low9 w + 256 + 2 * high7 w
   -- the word that a pointer leads to is the map word, "never a pointer again"
   pub pointed :
-      (m : Memory) (from : ℕ) → from < length m → pointedAt (wordAt m from) < length m
-      → pointerWalk m from ≡ Walk.Finished (wordAt m (pointedAt (wordAt m from))) (Reads.Pointed from (pointedAt (wordAt m from)))
-  pub pointed-off : (m : Memory) (from : ℕ) → from < length m → length m ≤ pointedAt (wordAt m from) → pointerWalk m from ≡ Walk.Off
-  pub pointer-off : (m : Memory) (from : ℕ) → length m ≤ from → pointerWalk m from ≡ Walk.Off
+      (m : Memory) (from : ℕ) → from < length m → pointed_at (word_at m from) < length m
+      → pointer_walk m from ≡ Walk.Finished (word_at m (pointed_at (word_at m from))) (Reads.Pointed from (pointed_at (word_at m from)))
+  pub pointed_off : (m : Memory) (from : ℕ) → from < length m → length m ≤ pointed_at (word_at m from) → pointer_walk m from ≡ Walk.Off
+  pub pointer_off : (m : Memory) (from : ℕ) → length m ≤ from → pointer_walk m from ≡ Walk.Off
 
 -- Proofs -----------------------------------------------------------------------------------------------------------------
 
-with-four : (simple 0o004005 4 ≡ true) × (simple 0o004005 5 ≡ false)
+with_four : (simple 0o004005 4 ≡ true) × (simple 0o004005 5 ≡ false)
 unfolding simple high7
-with-four = (refl, refl)
+with_four = (refl, refl)
 
 simple-to : (r p : ℕ) → p ≤ high7 r → simple r p ≡ true
 unfolding simple
@@ -67,46 +67,46 @@ beyond : (r p : ℕ) → high7 r < p → simple r p ≡ false
 unfolding simple
 beyond r p h = lt-leb _ _ h
 
-simple-at-most : (r p : ℕ) → simple r p ≡ true → p ≤ high7 r
+simple_at_most : (r p : ℕ) → simple r p ≡ true → p ≤ high7 r
 unfolding simple
-simple-at-most r p e = leb-true _ _ e
+simple_at_most r p e = leb-true _ _ e
 
 pub boundary : Boundary
 boundary =
     record {
-      up_to = λ r p. (simple-at-most r p, simple-to r p);
-      one = λ r p none. ((λ e. let h = simple-at-most r p e in omega arith), (λ z. simple-to r p (omega arith)));
+      up_to = λ r p. (simple_at_most r p, simple-to r p);
+      one = λ r p none. ((λ e. let h = simple_at_most r p e in omega arith), (λ z. simple-to r p (omega arith)));
       all = λ r p n h. simple-to r p (omega arith);
-      first-beyond = λ r. (simple-to r (high7 r) (omega arith), beyond r (high7 r + 1) (omega arith));
-      with-four = with-four;
+      first_beyond = λ r. (simple-to r (high7 r) (omega arith), beyond r (high7 r + 1) (omega arith));
+      with_four = with_four;
     }
 
-pub walks-by-boundary : WalksByBoundary
-unfolding pick walk_of execWalk userWalk upperAt lowerAt
-walks-by-boundary =
+pub walks_by_boundary : WalksByBoundary
+unfolding pick walk_of exec_walk user_walk upper_at lower_at
+walks_by_boundary =
     record {
-      exec-simple = λ m r p h. pick_true (simple r.ktem p) _ _ (simple-to r.ktem p h);
-      exec-per-process = λ m r p h. pick-false (simple r.ktem p) _ _ (beyond r.ktem p h);
-      user-simple = λ m r p h. pick_true (simple r.ktum p) _ _ (simple-to r.ktum p h);
-      user-shared = λ m r p h. pick-false (simple r.ktum p) _ _ (beyond r.ktum p h);
+      exec_simple = λ m r p h. pick_true (simple r.ktem p) _ _ (simple-to r.ktem p h);
+      exec_per_process = λ m r p h. pick-false (simple r.ktem p) _ _ (beyond r.ktem p h);
+      user_simple = λ m r p h. pick_true (simple r.ktum p) _ _ (simple-to r.ktum p h);
+      user_shared = λ m r p h. pick-false (simple r.ktum p) _ _ (beyond r.ktum p h);
     }
 
-is-there : (m : Memory) (at : ℕ) (w : Walk) → at < length m → unlessOff m at w ≡ w
-unfolding unlessOff
-is-there m at w h = pick_true (ltb at (length m)) w Walk.Off (lt-ltb at (length m) h)
+is_there : (m : Memory) (at : ℕ) (w : Walk) → at < length m → unless_off m at w ≡ w
+unfolding unless_off
+is_there m at w h = pick_true (ltb at (length m)) w Walk.Off (lt-ltb at (length m) h)
 
-is-off : (m : Memory) (at : ℕ) (w : Walk) → length m ≤ at → unlessOff m at w ≡ Walk.Off
-unfolding unlessOff
-is-off m at w h = pick-false (ltb at (length m)) w Walk.Off (le-ltb at (length m) h)
+is_off : (m : Memory) (at : ℕ) (w : Walk) → length m ≤ at → unless_off m at w ≡ Walk.Off
+unfolding unless_off
+is_off m at w h = pick-false (ltb at (length m)) w Walk.Off (le-ltb at (length m) h)
 
-pub words-read : WordsRead
-unfolding wordWalk pointerWalk followed pointedAt upperAt
-words-read =
+pub words_read : WordsRead
+unfolding word_walk pointer_walk followed pointed_at upper_at
+words_read =
     record {
-      word = λ m at h. is-there m at _ h;
-      word-off = λ m at h. is-off m at _ h;
+      word = λ m at h. is_there m at _ h;
+      word_off = λ m at h. is_off m at _ h;
       pointer = λ w. refl;
-      pointed = λ m from h g. is-there m from _ h ∙ is-there m (pointedAt (wordAt m from)) _ g;
-      pointed-off = λ m from h g. is-there m from _ h ∙ is-off m (pointedAt (wordAt m from)) _ g;
-      pointer-off = λ m from h. is-off m from _ h;
+      pointed = λ m from h g. is_there m from _ h ∙ is_there m (pointed_at (word_at m from)) _ g;
+      pointed_off = λ m from h g. is_there m from _ h ∙ is_off m (pointed_at (word_at m from)) _ g;
+      pointer_off = λ m from h. is_off m from _ h;
     }

@@ -8,20 +8,20 @@ use lib.Dec.{ltb}
 use lib.ListN.{get_or}
 use Rattle.rules.specs.Types.{Core, Maps, Size, Call, Operating, Associative, Register, Target, Place, Returned}
 use Rattle.rules.specs.Choice.{pick}
-use Rattle.rules.specs.Memory.{Memory, goodLength, evenOf}
-use Rattle.rules.specs.Unit.{countOf}
+use Rattle.rules.specs.Memory.{Memory, good_length, even_of}
+use Rattle.rules.specs.Unit.{count_of}
 use Rattle.rules.specs.Status.{packed}
-use Rattle.rules.specs.Registers.{found_from, wordsFrom, registers, registerOf, place_in, placeFound, place_of, operatingWord}
+use Rattle.rules.specs.Registers.{found_from, words_from, registers, register_of, place_in, place_found, place_of, operating_word}
 use Rattle.rules.specs.Registers.{ktic, ktsp, ktpc, ktps, ktad, ktdt}
 use Rattle.rules.specs.Calls.{fresh}
 use Rattle.rules.specs.Answers.{shown}
-use Rattle.rules.specs.Runs.{Seen, seenAlong, plain_of, plainAlong, noneInUse, meets}
-use Rattle.rules.proofs.Laws.PlaceLaws.{beyond-memory, pad-place, past-the-pads}
-use Rattle.rules.proofs.Demand3.SameRun.{same-as-plain}
+use Rattle.rules.specs.Runs.{Seen, seen_along, plain_of, plain_along, none_in_use, meets}
+use Rattle.rules.proofs.Laws.PlaceLaws.{beyond_memory, pad_place, past_the_pads}
+use Rattle.rules.proofs.Demand3.SameRun.{same_as_plain}
 
 -- demand 3's "operating register (KTCS and 777600o-777616o)"
-abbrev pub operatingRegisters : List Operating
-operatingRegisters =
+abbrev pub operating_registers : List Operating
+operating_registers =
     Operating.Ktcs ∷ Operating.Kept ktic ∷ Operating.Kept ktsp ∷ Operating.Kept ktpc ∷ Operating.Kept ktps ∷ Operating.Kept ktad
     ∷ Operating.Kept ktdt ∷ Operating.Ktum ∷ Operating.Ktem ∷ []
 
@@ -32,28 +32,28 @@ pub record HostHas : Type 0 where
   pub registers : List ℕ
   pub memory : Memory
 
-abbrev pub hostHas : Seen → HostHas
-hostHas s =
+abbrev pub host_has : Seen → HostHas
+host_has s =
     record {
       answer = shown s.answer;
-      registers = map (operatingWord s.core s.maps) operatingRegisters;
+      registers = map (operating_word s.core s.maps) operating_registers;
       memory = s.memory;
     }
 
 -- After each call of a run that meets the premises the host has, number for number, what the unit with no cells would have given it.
 abbrev pub SameToTheHost : Type 0
 SameToTheHost =
-    (s : Size) (m : Memory) (cs : List Call) → meets m (fresh s) noneInUse cs ≡ true
-    → map hostHas (seenAlong m (fresh s) cs) ≡ map hostHas (plainAlong m (plain_of (fresh s)) cs)
+    (s : Size) (m : Memory) (cs : List Call) → meets m (fresh s) none_in_use cs ≡ true
+    → map host_has (seen_along m (fresh s) cs) ≡ map host_has (plain_along m (plain_of (fresh s)) cs)
 
 -- That those registers are what lies at 777576o and at 777600o to 777616o, for either size and every length that 01 allows, and the word of each.
 pub record RegistersByAddress : Type 0 where
   pub places :
-      (s : Size) (len : ℕ) → goodLength len ≡ true
-      → map (place_of s len) (wordsFrom 0o777576 9) ≡ map (λ g. Place.There (Target.In (Register.Operating g))) operatingRegisters
+      (s : Size) (len : ℕ) → good_length len ≡ true
+      → map (place_of s len) (words_from 0o777576 9) ≡ map (λ g. Place.There (Target.In (Register.Operating g))) operating_registers
   pub words :
       (c : Core) (r : Maps)
-      → map (operatingWord c r) operatingRegisters
+      → map (operating_word c r) operating_registers
       ≡ packed c.ktcs ∷ get_or c.kept ktic 0 ∷ get_or c.kept ktsp 0 ∷ get_or c.kept ktpc 0 ∷ get_or c.kept ktps 0
       ∷ get_or c.kept ktad 0 ∷ get_or c.kept ktdt 0 ∷ r.ktum ∷ r.ktem ∷ []
 
@@ -62,35 +62,35 @@ pub record RegistersByAddress : Type 0 where
 -- nowhere for both." (T-08)
 pub record PadsByAddress (s : Size) (len : ℕ) : Type 0 where
   pub words :
-      (i : ℕ) → i < countOf s → place_of s len (0o777620 + 2 * i) ≡ Place.There (Target.In (Register.Associative (Associative.Pad i)))
+      (i : ℕ) → i < count_of s → place_of s len (0o777620 + 2 * i) ≡ Place.There (Target.In (Register.Associative (Associative.Pad i)))
   pub bytes :
-      (i : ℕ) → i < countOf s → place_of s len (0o777621 + 2 * i) ≡ Place.There (Target.In (Register.Associative (Associative.Pad i)))
-  pub past-them : (at : ℕ) → 0o777620 + 2 * countOf s ≤ at → place_of s len at ≡ Place.Nowhere
+      (i : ℕ) → i < count_of s → place_of s len (0o777621 + 2 * i) ≡ Place.There (Target.In (Register.Associative (Associative.Pad i)))
+  pub past_them : (at : ℕ) → 0o777620 + 2 * count_of s ≤ at → place_of s len at ≡ Place.Nowhere
 
 abbrev pub PadsStand : Type 0
-PadsStand = (s : Size) (len : ℕ) → goodLength len ≡ true → PadsByAddress s len
+PadsStand = (s : Size) (len : ℕ) → good_length len ≡ true → PadsByAddress s len
 
-pub same-to-the-host : SameToTheHost
-same-to-the-host s m cs e = ap (map hostHas) (same-as-plain s m cs e)
+pub same_to_the_host : SameToTheHost
+same_to_the_host s m cs e = ap (map host_has) (same_as_plain s m cs e)
 
-module _ (len : ℕ) (good : goodLength len ≡ true) where
+module _ (len : ℕ) (good : good_length len ≡ true) where
   beyond : (at : ℕ) → 0o760000 ≤ at → ltb at len ≡ false
-  beyond at h = beyond-memory len at good h
+  beyond at h = beyond_memory len at good h
 
-  places-so : (s : Size) → map (place_of s len) (wordsFrom 0o777576 9) ≡ map (λ g. Place.There (Target.In (Register.Operating g))) operatingRegisters
-  unfolding place_of placeFound place_in registerOf found_from wordsFrom registers evenOf pick
-  places-so s =
+  places_so : (s : Size) → map (place_of s len) (words_from 0o777576 9) ≡ map (λ g. Place.There (Target.In (Register.Operating g))) operating_registers
+  unfolding place_of place_found place_in register_of found_from words_from registers even_of pick
+  places_so s =
       simp (beyond 0o777576 (omega arith), beyond 0o777600 (omega arith), beyond 0o777602 (omega arith), beyond 0o777604 (omega arith), beyond 0o777606 (omega arith), beyond 0o777610 (omega arith), beyond 0o777612 (omega arith), beyond 0o777614 (omega arith), beyond 0o777616 (omega arith))
 
-pub registers-by-address : RegistersByAddress
-unfolding operatingWord
-registers-by-address = record { places = λ s len good. places-so len good s; words = λ c r. refl }
+pub registers_by_address : RegistersByAddress
+unfolding operating_word
+registers_by_address = record { places = λ s len good. places_so len good s; words = λ c r. refl }
 
-pub pads-stand : PadsStand
-unfolding evenOf
-pads-stand s len good =
+pub pads_stand : PadsStand
+unfolding even_of
+pads_stand s len good =
     record {
-      words = λ i b. pad-place s len good i (0o777620 + 2 * i) b (omega arith) (omega arith);
-      bytes = λ i b. pad-place s len good i (0o777621 + 2 * i) b (omega arith) (omega arith);
-      past-them = λ at h. past-the-pads s len good at (omega (arith, h)) (omega (arith, h));
+      words = λ i b. pad_place s len good i (0o777620 + 2 * i) b (omega arith) (omega arith);
+      bytes = λ i b. pad_place s len good i (0o777621 + 2 * i) b (omega arith) (omega arith);
+      past_them = λ at h. past_the_pads s len good at (omega (arith, h)) (omega (arith, h));
     }

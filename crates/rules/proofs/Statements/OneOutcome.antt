@@ -23,8 +23,8 @@ pub one-ending : {p : Prog} (o o₁ : Outcome) → done o ≡ p → done o₁ �
 one-ending o o₁ e e₁ = cc
 
 -- `(m : Memory) → r ≡ d m`: a call that asks for no memory, whatever memory there is
-pub one-for-all : {A : Type 0} {d : Memory → A} (m : Memory) (a a₁ : A) → ((m : Memory) → a ≡ d m) → ((m : Memory) → a₁ ≡ d m) → a ≡ a₁
-one-for-all m a a₁ e e₁ = one_answer a a₁ (e m) (e₁ m)
+pub one_for_all : {A : Type 0} {d : Memory → A} (m : Memory) (a a₁ : A) → ((m : Memory) → a ≡ d m) → ((m : Memory) → a₁ ≡ d m) → a ≡ a₁
+one_for_all m a a₁ e e₁ = one_answer a a₁ (e m) (e₁ m)
 
 -- The unit's own call, in its contract's words: reply (answer and unit) and lent memory are fixed, refused or not.
 pub one-access :

@@ -7,50 +7,50 @@ use mathlib.Core.Logic.{◌≢◌}
 use lib.Dec.{eqb, ltb}
 use lib.ListN.{length, get_or}
 use Rattle.rules.specs.Types.{Ktcs, Core, Cells, Unit, Access, Call, Operating, Associative, Register, Target, Place, Entry, Due, Fault, Ruling, Answer, Effect, Job, Ran}
-use Rattle.rules.specs.Memory.{Memory, storeWord, storeByte}
-use Rattle.rules.specs.Unit.{withFetch, initCore}
+use Rattle.rules.specs.Memory.{Memory, store_word, store_byte}
+use Rattle.rules.specs.Unit.{with_fetch, init_core}
 use Rattle.rules.specs.Registers.{ktpc, ktps, place_of, part_of, merged}
-use Rattle.rules.specs.Maps.{unpaged, unpagedAt, physicalAt, residentBit, publicBit, writeBit, low9}
-use Rattle.rules.specs.Fetched.{isFetch, noted, afterFetch}
-use Rattle.rules.specs.Steps.{wellShaped, dueOf, oddWord, watches, forbidden}
-use Rattle.rules.specs.Sequences.{violated, timedOut, statusStored, programCounterStored, firstReadDone, userStarted, interrupted, trapped, vectorListed, idle}
+use Rattle.rules.specs.Maps.{unpaged, unpaged_at, physical_at, resident_bit, public_bit, write_bit, low9}
+use Rattle.rules.specs.Fetched.{is_fetch, noted, after_fetch}
+use Rattle.rules.specs.Steps.{well_shaped, due_of, odd_word, watches, forbidden}
+use Rattle.rules.specs.Sequences.{violated, timed_out, status_stored, program_counter_stored, first_read_done, user_started, interrupted, trapped, vector_listed, idle}
 use Rattle.rules.specs.Program.{run}
-use Rattle.rules.specs.Order.{wordRead, stored_at, flagAfter, windowAddr}
+use Rattle.rules.specs.Order.{word_read, stored_at, flag_after, window_addr}
 use Rattle.rules.specs.Calls.{called, settled, call_of}
 use Rattle.rules.specs.Answers.{shown}
-use Rattle.rules.proofs.Promises.{job, outer, inner, outerTag, innerTag, Begun, Unpaged, Paged}
+use Rattle.rules.proofs.Promises.{job, outer, inner, outer_tag, inner_tag, Begun, Unpaged, Paged}
 
 -- the physical address, once the steps have given its physical page
-abbrev pub outerAt : Access → ℕ → ℕ
-outerAt q page = physicalAt page q.addr
+abbrev pub outer_at : Access → ℕ → ℕ
+outer_at q page = physical_at page q.addr
 
 abbrev pub inner_at : Unit → Access → ℕ → ℕ
-inner_at u q page = physicalAt page (windowAddr (job u q))
+inner_at u q page = physical_at page (window_addr (job u q))
 
 -- What steps 6 to 10 say -------------------------------------------------------------------------------------------------
 
 -- step 8's test: "Write key for operations 1-3"
 abbrev pub locked : ℕ → ℕ → Bool
-locked op w = not (eqb op 0) && not (writeBit w)
+locked op w = not (eqb op 0) && not (write_bit w)
 
 -- step 9's test, where it is asked
 abbrev pub hidden : Bool → ℕ → Bool
-hidden watched w = watched && not (publicBit w)
+hidden watched w = watched && not (public_bit w)
 
 -- Steps 6 to 9 of an entry: one way for each step that refuses, and two to pass. An access is watched that step 9 asks about; a window's
 -- inner one is not, "with no privacy step".
 pub data Keys (op : ℕ) (watched : Bool) : Entry → Ruling → Type 0 where
   off-map : Keys op watched Entry.OffMap (Ruling.Refused Fault.NoMapWord)
-  not-resident : {w : ℕ} → residentBit w ≡ false → Keys op watched (Entry.Mapped w) (Ruling.Refused Fault.NotResident)
-  not-writable :
-      {w : ℕ} → residentBit w ≡ true → locked op w ≡ true → Keys op watched (Entry.Mapped w) (Ruling.Refused Fault.NotWritable)
-  not-public :
-      {w : ℕ} → residentBit w ≡ true → locked op w ≡ false → hidden watched w ≡ true
+  not_resident : {w : ℕ} → resident_bit w ≡ false → Keys op watched (Entry.Mapped w) (Ruling.Refused Fault.NotResident)
+  not_writable :
+      {w : ℕ} → resident_bit w ≡ true → locked op w ≡ true → Keys op watched (Entry.Mapped w) (Ruling.Refused Fault.NotWritable)
+  not_public :
+      {w : ℕ} → resident_bit w ≡ true → locked op w ≡ false → hidden watched w ≡ true
       → Keys op watched (Entry.Mapped w) (Ruling.Refused Fault.NotPublic)
   granted :
-      {w : ℕ} → residentBit w ≡ true → locked op w ≡ false → hidden watched w ≡ false
+      {w : ℕ} → resident_bit w ≡ true → locked op w ≡ false → hidden watched w ≡ false
       → Keys op watched (Entry.Mapped w) (Ruling.Granted (low9 w))
-  exec-zero : {page : ℕ} → Keys op watched (Entry.ExecZero page) (Ruling.Granted page)
+  at_exec_zero : {page : ℕ} → Keys op watched (Entry.ExecZero page) (Ruling.Granted page)
 
 -- How a call ends --------------------------------------------------------------------------------------------------------
 
@@ -67,20 +67,20 @@ abbrev pub taken : Unit → ℕ → Core → Ran
 taken u w c = ending (Answer.Taken w) c Effect.Keep u.cells
 
 -- an unpaged 9
-abbrev pub timeOut : Unit → Access → Ran
-timeOut u q = ending (Answer.Fault Fault.NoTarget) (timedOut (noted u.core q) q) Effect.Keep u.cells
+abbrev pub time_out : Unit → Access → Ran
+time_out u q = ending (Answer.Fault Fault.NoTarget) (timed_out (noted u.core q) q) Effect.Keep u.cells
 
 -- answers 4 to 8, 10 and a paged 9: whether in a window's inner access, the tag of the page at fault, and the cells as step 6 left them
-abbrev pub faultEnding : Unit → Access → Fault → Bool → ℕ → Cells → Ran
-faultEnding u q f window tag k = ending (Answer.Fault f) (violated (noted u.core q) q window f) (Effect.Forget tag) k
+abbrev pub fault_ending : Unit → Access → Fault → Bool → ℕ → Cells → Ran
+fault_ending u q f window tag k = ending (Answer.Fault f) (violated (noted u.core q) q window f) (Effect.Forget tag) k
 
 -- answer 0 of a fetch that read w and leaves this flag
-abbrev pub fetchDone : Job → ℕ → Bool → ℕ → Cells → Ran
-fetchDone j at flag w k = ending (Answer.Done w at) (withFetch j.core (afterFetch j.core.fetch w flag)) Effect.Keep k
+abbrev pub fetch_done : Job → ℕ → Bool → ℕ → Cells → Ran
+fetch_done j at flag w k = ending (Answer.Done w at) (with_fetch j.core (after_fetch j.core.fetch w flag)) Effect.Keep k
 
 -- answer 0 of another access: a read by operations 0 and 1, a store by 2 and 3
 pub data Transfer (m : Memory) (j : Job) (k : Cells) (at : ℕ) (t : Target) : Ran → Type 0 where
-  read : ltb j.q.op 2 ≡ true → Transfer m j k at t (ending (Answer.Done (wordRead m j k at t) at) j.core Effect.Keep k)
+  read : ltb j.q.op 2 ≡ true → Transfer m j k at t (ending (Answer.Done (word_read m j k at t) at) j.core Effect.Keep k)
   store : ltb j.q.op 2 ≡ false → Transfer m j k at t (record { outcome = stored_at j (part_of j.q.op at) at t; cells = k })
 
 module _ (m : Memory) (u : Unit) (q : Access) where
@@ -89,12 +89,12 @@ module _ (m : Memory) (u : Unit) (q : Access) where
   -- unpaged, and step 10 passed, with this target
   pub record UnpagedThere (t : Target) : Type 0 where
     pub steps : Unpaged m u q
-    pub place : place_of u.cells.size (length m) (unpagedAt q.addr) ≡ Place.There t
+    pub place : place_of u.cells.size (length m) (unpaged_at q.addr) ≡ Place.There t
 
   -- step 5 passed, and the page's entry is asked for
   pub record Asked : Type 0 where
     pub steps : Paged m u q
-    pub even : oddWord q.width q.addr ≡ false
+    pub even : odd_word q.width q.addr ≡ false
 
   -- steps 6 to 9 passed, and gave this physical page
   pub record Granted (page : ℕ) : Type 0 where
@@ -104,19 +104,19 @@ module _ (m : Memory) (u : Unit) (q : Access) where
   -- step 10 passed
   pub record PagedThere (page : ℕ) (t : Target) : Type 0 where
     pub steps : Granted page
-    pub place : place_of u.cells.size (length m) (outerAt q page) ≡ Place.There t
+    pub place : place_of u.cells.size (length m) (outer_at q page) ≡ Place.There t
 
   -- the window: "goes on as a user access to KTAD"
   pub record Windowed : Type 0 where
     pub page : ℕ
     pub steps : Granted page
-    pub place : place_of u.cells.size (length m) (outerAt q page) ≡ Place.Window
-    pub no-fetch : isFetch q ≡ false
+    pub place : place_of u.cells.size (length m) (outer_at q page) ≡ Place.Window
+    pub no_fetch : is_fetch q ≡ false
 
   -- step 5 passed again
   pub record InnerAsked : Type 0 where
     pub steps : Windowed
-    pub even : oddWord q.width (windowAddr (job u q)) ≡ false
+    pub even : odd_word q.width (window_addr (job u q)) ≡ false
 
   -- steps 6 to 8 passed again
   pub record InnerGranted (page : ℕ) : Type 0 where
@@ -132,82 +132,82 @@ module _ (m : Memory) (u : Unit) (q : Access) where
   -- left them. In 01's order.
   pub data AtFault : Fault → Bool → ℕ → Cells → Type 0 where
     -- "5. Paged odd word (4)."
-    odd : Paged m u q → oddWord q.width q.addr ≡ true → AtFault Fault.OddAddress false (outerTag u q) u.cells
+    odd : Paged m u q → odd_word q.width q.addr ≡ true → AtFault Fault.OddAddress false (outer_tag u q) u.cells
     -- "6. Walk (9).", where "10 takes 9's place" (T-01), "7. Residency (5). 8. Write key for operations 1-3 (6). 9. Privacy (7)."
-    keys-refuse :
+    keys_refuse :
         {f : Fault} → Asked → Keys q.op (watches (job u q).core.fetch q) (outer m u q).entry (Ruling.Refused f)
-        → AtFault f false (outerTag u q) (outer m u q).cells
+        → AtFault f false (outer_tag u q) (outer m u q).cells
     -- "10. Target at or beyond L and not a register above (9)."; the window "by fetch ..: time-out at step 10"
     nowhere :
-        {page : ℕ} → Granted page → place_of u.cells.size (length m) (outerAt q page) ≡ Place.Nowhere
-        → AtFault Fault.NoTarget false (outerTag u q) (outer m u q).cells
-    window-by-fetch :
-        {page : ℕ} → Granted page → place_of u.cells.size (length m) (outerAt q page) ≡ Place.Window → isFetch q ≡ true
-        → AtFault Fault.NoTarget false (outerTag u q) (outer m u q).cells
+        {page : ℕ} → Granted page → place_of u.cells.size (length m) (outer_at q page) ≡ Place.Nowhere
+        → AtFault Fault.NoTarget false (outer_tag u q) (outer m u q).cells
+    window_by_fetch :
+        {page : ℕ} → Granted page → place_of u.cells.size (length m) (outer_at q page) ≡ Place.Window → is_fetch q ≡ true
+        → AtFault Fault.NoTarget false (outer_tag u q) (outer m u q).cells
     -- "11. For a fetch, the word (8)."
     forbidden-word :
-        {page : ℕ} {t : Target} {w : ℕ} → PagedThere page t → isFetch q ≡ true
-        → wordRead m (job u q) (outer m u q).cells (outerAt q page) t ≡ w
+        {page : ℕ} {t : Target} {w : ℕ} → PagedThere page t → is_fetch q ≡ true
+        → word_read m (job u q) (outer m u q).cells (outer_at q page) t ≡ w
         → forbidden (job u q).core (outer m u q).entry w ≡ true
-        → AtFault (Fault.Forbidden w (outerAt q page)) false (outerTag u q) (outer m u q).cells
+        → AtFault (Fault.Forbidden w (outer_at q page)) false (outer_tag u q) (outer m u q).cells
     -- the window's inner access: "through steps 5-8 and 10 again"; "window on window: time-out at step 10"
     inner-odd :
-        Windowed → oddWord q.width (windowAddr (job u q)) ≡ true → AtFault Fault.OddAddress true (innerTag u q) (outer m u q).cells
-    inner-keys-refuse :
+        Windowed → odd_word q.width (window_addr (job u q)) ≡ true → AtFault Fault.OddAddress true (inner_tag u q) (outer m u q).cells
+    inner_keys_refuse :
         {f : Fault} → InnerAsked → Keys q.op false (inner m u q).entry (Ruling.Refused f)
-        → AtFault f true (innerTag u q) (inner m u q).cells
+        → AtFault f true (inner_tag u q) (inner m u q).cells
     inner-nowhere :
         {page : ℕ} → InnerGranted page → place_of u.cells.size (length m) (inner_at u q page) ≡ Place.Nowhere
-        → AtFault Fault.NoTarget true (innerTag u q) (inner m u q).cells
-    window-on-window :
+        → AtFault Fault.NoTarget true (inner_tag u q) (inner m u q).cells
+    window_on_window :
         {page : ℕ} → InnerGranted page → place_of u.cells.size (length m) (inner_at u q page) ≡ Place.Window
-        → AtFault Fault.NoTarget true (innerTag u q) (inner m u q).cells
+        → AtFault Fault.NoTarget true (inner_tag u q) (inner m u q).cells
 
   -- Why an access ends as it does: the test of the step that ends it, and that all earlier steps passed.
   pub data Way : Ran → Type 0 where
     -- "1. Shape (answer 1)."
-    misshapen : wellShaped (length m) q ≡ false → Way (unchanged u Answer.Misshapen)
+    misshapen : well_shaped (length m) q ≡ false → Way (unchanged u Answer.Misshapen)
     -- "2. The wait (2); a due sequence access ends here."
-    late : wellShaped (length m) q ≡ true → dueOf u.core q ≡ Due.OutOfTurn → Way (unchanged u Answer.NotDue)
-    status-stored :
-        wellShaped (length m) q ≡ true → dueOf u.core q ≡ Due.StatusStore → Way (taken u 0 (statusStored u.core q.datum))
-    program-counter-stored :
-        wellShaped (length m) q ≡ true → dueOf u.core q ≡ Due.ProgramCounterStore
-        → Way (taken u 0 (programCounterStored u.core q.addr q.datum))
+    late : well_shaped (length m) q ≡ true → due_of u.core q ≡ Due.OutOfTurn → Way (unchanged u Answer.NotDue)
+    stored_status :
+        well_shaped (length m) q ≡ true → due_of u.core q ≡ Due.StatusStore → Way (taken u 0 (status_stored u.core q.datum))
+    stored_program_counter :
+        well_shaped (length m) q ≡ true → due_of u.core q ≡ Due.ProgramCounterStore
+        → Way (taken u 0 (program_counter_stored u.core q.addr q.datum))
     first_read :
-        wellShaped (length m) q ≡ true → dueOf u.core q ≡ Due.FirstRead
-        → Way (taken u (get_or u.core.kept ktpc 0) (firstReadDone u.core))
-    second-read :
-        wellShaped (length m) q ≡ true → dueOf u.core q ≡ Due.SecondRead
-        → Way (taken u (get_or u.core.kept ktps 0) (userStarted u.core))
+        well_shaped (length m) q ≡ true → due_of u.core q ≡ Due.FirstRead
+        → Way (taken u (get_or u.core.kept ktpc 0) (first_read_done u.core))
+    second_read :
+        well_shaped (length m) q ≡ true → due_of u.core q ≡ Due.SecondRead
+        → Way (taken u (get_or u.core.kept ktps 0) (user_started u.core))
     -- "3. Unpaged odd word (3)."
     unpaged-odd :
-        Begun m u q → unpaged u.core.ktcs.fcn q.state ≡ true → oddWord q.width q.addr ≡ true → Way (unchanged u Answer.UnpagedOdd)
+        Begun m u q → unpaged u.core.ktcs.fcn q.state ≡ true → odd_word q.width q.addr ≡ true → Way (unchanged u Answer.UnpagedOdd)
     -- step 10, unpaged: nowhere, or the window, "Unpaged ..: time-out at step 10"
     unpaged-nowhere :
-        Unpaged m u q → place_of u.cells.size (length m) (unpagedAt q.addr) ≡ Place.Nowhere → Way (timeOut u q)
+        Unpaged m u q → place_of u.cells.size (length m) (unpaged_at q.addr) ≡ Place.Nowhere → Way (time_out u q)
     unpaged-window :
-        Unpaged m u q → place_of u.cells.size (length m) (unpagedAt q.addr) ≡ Place.Window → Way (timeOut u q)
+        Unpaged m u q → place_of u.cells.size (length m) (unpaged_at q.addr) ≡ Place.Window → Way (time_out u q)
     -- unpaged, all steps passed
     unpaged-fetch :
-        {t : Target} {w : ℕ} → UnpagedThere t → isFetch q ≡ true
-        → wordRead m (job u q) u.cells (unpagedAt q.addr) t ≡ w
-        → Way (fetchDone (job u q) (unpagedAt q.addr) (job u q).core.fetch.public w u.cells)
+        {t : Target} {w : ℕ} → UnpagedThere t → is_fetch q ≡ true
+        → word_read m (job u q) u.cells (unpaged_at q.addr) t ≡ w
+        → Way (fetch_done (job u q) (unpaged_at q.addr) (job u q).core.fetch.public w u.cells)
     unpaged-transfer :
-        {t : Target} {d : Ran} → UnpagedThere t → isFetch q ≡ false → Transfer m (job u q) u.cells (unpagedAt q.addr) t d → Way d
+        {t : Target} {d : Ran} → UnpagedThere t → is_fetch q ≡ false → Transfer m (job u q) u.cells (unpaged_at q.addr) t d → Way d
     -- steps 5 to 11: answers 4 to 8, 10 and a paged 9
     violation :
         {f : Fault} {window : Bool} {tag : ℕ} {k : Cells} → AtFault f window tag k
-        → Way (faultEnding u q f window tag k)
+        → Way (fault_ending u q f window tag k)
     -- paged, all steps passed
     fetch :
-        {page : ℕ} {t : Target} {w : ℕ} → PagedThere page t → isFetch q ≡ true
-        → wordRead m (job u q) (outer m u q).cells (outerAt q page) t ≡ w
+        {page : ℕ} {t : Target} {w : ℕ} → PagedThere page t → is_fetch q ≡ true
+        → word_read m (job u q) (outer m u q).cells (outer_at q page) t ≡ w
         → forbidden (job u q).core (outer m u q).entry w ≡ false
-        → Way (fetchDone (job u q) (outerAt q page) (flagAfter t (job u q).core.fetch (outer m u q).entry) w (outer m u q).cells)
+        → Way (fetch_done (job u q) (outer_at q page) (flag_after t (job u q).core.fetch (outer m u q).entry) w (outer m u q).cells)
     transfer :
-        {page : ℕ} {t : Target} {d : Ran} → PagedThere page t → isFetch q ≡ false
-        → Transfer m (job u q) (outer m u q).cells (outerAt q page) t d
+        {page : ℕ} {t : Target} {d : Ran} → PagedThere page t → is_fetch q ≡ false
+        → Transfer m (job u q) (outer m u q).cells (outer_at q page) t d
         → Way d
     inner-transfer :
         {page : ℕ} {t : Target} {d : Ran} → InnerThere page t → Transfer m (job u q) (inner m u q).cells (inner_at u q page) t d → Way d
@@ -216,18 +216,18 @@ module _ (m : Memory) (u : Unit) (q : Access) where
 pub data Why (m : Memory) (u : Unit) : Call → Ran → Type 0 where
   access : {q : Access} {d : Ran} → Way m u q d → Why m u (Call.Access q) d
   -- interrupt: 2 "while waiting ..; FCN 3", and 0 otherwise
-  interrupt-late : idle u.core.wait u.core.ktcs.fcn ≡ false → Why m u Call.Interrupt (unchanged u Answer.NotDue)
-  interrupt-taken : idle u.core.wait u.core.ktcs.fcn ≡ true → Why m u Call.Interrupt (taken u 0 (interrupted u.core))
+  interrupt_late : idle u.core.wait u.core.ktcs.fcn ≡ false → Why m u Call.Interrupt (unchanged u Answer.NotDue)
+  interrupt_taken : idle u.core.wait u.core.ktcs.fcn ≡ true → Why m u Call.Interrupt (taken u 0 (interrupted u.core))
   -- trap: "In every call 1 comes before 2"
-  unlisted : {v : ℕ} → vectorListed v ≡ false → Why m u (Call.Trap v) (unchanged u Answer.Misshapen)
-  trap-late :
-      {v : ℕ} → vectorListed v ≡ true → idle u.core.wait u.core.ktcs.fcn ≡ false
+  unlisted : {v : ℕ} → vector_listed v ≡ false → Why m u (Call.Trap v) (unchanged u Answer.Misshapen)
+  trap_late :
+      {v : ℕ} → vector_listed v ≡ true → idle u.core.wait u.core.ktcs.fcn ≡ false
       → Why m u (Call.Trap v) (unchanged u Answer.NotDue)
-  trap-taken :
-      {v : ℕ} → vectorListed v ≡ true → idle u.core.wait u.core.ktcs.fcn ≡ true
+  taken_trap :
+      {v : ℕ} → vector_listed v ≡ true → idle u.core.wait u.core.ktcs.fcn ≡ true
       → Why m u (Call.Trap v) (taken u 0 (trapped u.core v))
   -- INIT: "It is always accepted."
-  init : Why m u Call.Init (ending (Answer.Taken 0) (initCore u.core) (Effect.Reload u.maps) u.cells)
+  init : Why m u Call.Init (ending (Answer.Taken 0) (init_core u.core) (Effect.Reload u.maps) u.cells)
 
 -- what a call decides
 abbrev pub decided : Memory → Unit → Call → Ran
@@ -250,8 +250,8 @@ Settled = (m : Memory) (u : Unit) (c : Call) (d : Ran) → Why m u c d → decid
 -- memory after a call with this answer: as it was, or with a DATO's word or a DATOB's byte stored at the answer's physical address
 pub data Stored (m : Memory) : Call → Answer → Memory → Type 0 where
   nothing : {c : Call} {a : Answer} → Stored m c a m
-  word : {q : Access} {at : ℕ} → q.op ≡ 2 → Stored m (Call.Access q) (Answer.Done 0 at) (storeWord m at q.datum)
-  byte : {q : Access} {at : ℕ} → q.op ≡ 3 → Stored m (Call.Access q) (Answer.Done 0 at) (storeByte m at q.datum)
+  word : {q : Access} {at : ℕ} → q.op ≡ 2 → Stored m (Call.Access q) (Answer.Done 0 at) (store_word m at q.datum)
+  byte : {q : Access} {at : ℕ} → q.op ≡ 3 → Stored m (Call.Access q) (Answer.Done 0 at) (store_byte m at q.datum)
 
 abbrev pub StoredOnly : Type 0
 StoredOnly = (m : Memory) (u : Unit) (c : Call) → Stored m c (call_of m u c).reply.answer (call_of m u c).memory
@@ -269,26 +269,26 @@ associative g = Target.In (Register.Associative g)
 -- KTEM take their part of the data, which forgets all pages; a scratchpad word takes it too; KTMR takes nothing, and the other registers stand in
 -- the core.
 pub data Stores (u : Unit) (q : Access) (at : ℕ) : Target → Effect → Type 0 where
-  word-store : q.op ≡ 2 → Stores u q at Target.Memory (Effect.StoreWord at q.datum)
-  byte-store : q.op ≡ 3 → Stores u q at Target.Memory (Effect.StoreByte at q.datum)
-  ktcs-store : Stores u q at (operating Operating.Ktcs) Effect.Keep
+  word_store : q.op ≡ 2 → Stores u q at Target.Memory (Effect.StoreWord at q.datum)
+  byte_store : q.op ≡ 3 → Stores u q at Target.Memory (Effect.StoreByte at q.datum)
+  ktcs_store : Stores u q at (operating Operating.Ktcs) Effect.Keep
   kept_store : {i : ℕ} → Stores u q at (operating (Operating.Kept i)) Effect.Keep
-  ktum-store :
+  ktum_store :
       Stores u q at (operating Operating.Ktum)
       (Effect.Reload (record { ktum = merged (part_of q.op at) u.maps.ktum q.datum; ktem = u.maps.ktem }))
-  ktem-store :
+  ktem_store :
       Stores u q at (operating Operating.Ktem)
       (Effect.Reload (record { ktum = u.maps.ktum; ktem = merged (part_of q.op at) u.maps.ktem q.datum }))
-  ktmr-store : Stores u q at (associative Associative.Ktmr) Effect.Keep
-  pad-store : {i : ℕ} → Stores u q at (associative (Associative.Pad i)) (Effect.StorePad i (part_of q.op at) q.datum)
+  ktmr_store : Stores u q at (associative Associative.Ktmr) Effect.Keep
+  pad_store : {i : ℕ} → Stores u q at (associative (Associative.Pad i)) (Effect.StorePad i (part_of q.op at) q.datum)
 
 -- What a call does beside its answer and the core. Its effect is the only thing by which memory, map registers and cells change (`settled` of
--- specs/Calls.antt; the cells change by step 6 too), and the only thing by which a page is forgotten (`historyAfter` of specs/Runs.antt).
+-- specs/Calls.antt; the cells change by step 6 too), and the only thing by which a page is forgotten (`history_after` of specs/Runs.antt).
 pub data Does (m : Memory) (u : Unit) : Call → Answer → Effect → Type 0 where
   -- answers 1, 2 and 3: nothing
   after-refusal : {c : Call} {a : Answer} → (shown a).number ≢ 0 → (shown a).number < 4 → Does m u c a Effect.Keep
   -- an unpaged 9: nothing
-  after-unpaged-time-out :
+  after_unpaged_time_out :
       {q : Access} → unpaged u.core.ktcs.fcn q.state ≡ true → Does m u (Call.Access q) (Answer.Fault Fault.NoTarget) Effect.Keep
   -- answers 4 to 8, 10 and a paged 9: the page at fault, and no other, is forgotten
   after-fault :

@@ -1,5 +1,5 @@
 -- `sequences::init_core` meets its contract.
-use Rattle.rules.specs.Unit.{initCore}
+use Rattle.rules.specs.Unit.{init_core}
 use borrow.Author.Rules.{rules}
 use mathlib.Core.Path.{sym}
 use Rattle.sequences.proofs.init_core.Statement.{statement}
@@ -12,7 +12,7 @@ clear-fetch-requires : tie.Need-clear-fetch-requires
 clear-fetch-requires c κs = search rules
 
 returns : tie.Need-returns
-unfolding initCore
+unfolding init_core
 returns c = simp (sym c.clear-fetch.ensures, sym c.before.before.clear-ktcs.ensures)
 
 pub init-core-spec : {M : Type 1} → statement M

@@ -1,7 +1,7 @@
 -- `sequences::interrupted` meets its contract.
 use Rattle.rules.specs.Choice.{pick}
 use Rattle.rules.specs.Sequences.{interrupted}
-use Rattle.rules.specs.Unit.{withKtcs}
+use Rattle.rules.specs.Unit.{with_ktcs}
 use borrow.Author.Rules.{rules}
 use mathlib.Core.Path.{sym}
 use Rattle.sequences.proofs.interrupted.Statement.{statement}
@@ -14,11 +14,11 @@ with-modes-requires : tie.Need-with-modes-requires
 with-modes-requires c κs = search rules
 
 returns : tie.Need-returns
-unfolding interrupted withKtcs pick
+unfolding interrupted with_ktcs pick
 returns c = simp (sym c.service-awaited.ensures, c.before.before.if1.true)
 
 returns-2 : tie.Need-returns-2
-unfolding interrupted withKtcs pick
+unfolding interrupted with_ktcs pick
 returns-2 c = simp (sym c.with-modes.ensures, c.before.if1.false)
 
 pub interrupted-spec : {M : Type 1} → statement M

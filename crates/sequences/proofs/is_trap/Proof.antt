@@ -1,5 +1,5 @@
 -- `sequences::is_trap` meets its contract.
-use Rattle.rules.specs.Sequences.{isTrap}
+use Rattle.rules.specs.Sequences.{is_trap}
 use borrow.Author.Rules.{rules}
 use Rattle.sequences.proofs.is_trap.Statement.{statement}
 use Rattle.sequences.proofs.is_trap.Tie as tie
@@ -26,31 +26,31 @@ enum-told-7 : tie.Need-enum-told-7
 enum-told-7 c = search rules
 
 returns : tie.Need-returns
-unfolding isTrap
+unfolding is_trap
 returns c = simp c.enum_told.given.1
 
 returns-2 : tie.Need-returns-2
-unfolding isTrap
+unfolding is_trap
 returns-2 c = simp c.enum-told2.given.1
 
 returns-3 : tie.Need-returns-3
-unfolding isTrap
+unfolding is_trap
 returns-3 c = simp c.enum-told3.given.1
 
 returns-4 : tie.Need-returns-4
-unfolding isTrap
+unfolding is_trap
 returns-4 c = simp c.enum-told4.given.1
 
 returns-5 : tie.Need-returns-5
-unfolding isTrap
+unfolding is_trap
 returns-5 c = simp c.enum-told5.given.1
 
 returns-6 : tie.Need-returns-6
-unfolding isTrap
+unfolding is_trap
 returns-6 c = simp c.enum-told6.given.1
 
 returns-7 : tie.Need-returns-7
-unfolding isTrap
+unfolding is_trap
 returns-7 c = simp c.enum-told7.given.1
 
 pub is-trap-spec : {M : Type 1} → statement M

@@ -1,5 +1,5 @@
 -- `sequences::program_counter_stored` meets its contract.
-use Rattle.rules.specs.Sequences.{programCounterStored}
+use Rattle.rules.specs.Sequences.{program_counter_stored}
 use borrow.Author.Rules.{rules}
 use mathlib.Core.Path.{sym}
 use Rattle.sequences.proofs.program_counter_stored.Statement.{statement}
@@ -12,7 +12,7 @@ kept-stored-requires-2 : tie.Need-kept-stored-requires-2
 kept-stored-requires-2 c κs = search rules
 
 returns : tie.Need-returns
-unfolding programCounterStored
+unfolding program_counter_stored
 returns c = simp (sym c.before.kept-stored2.ensures, sym c.before.before.kept-stored.ensures)
 
 pub program-counter-stored-spec : {M : Type 1} → statement M

@@ -1,5 +1,5 @@
 -- `sequences::status_stored` meets its contract.
-use Rattle.rules.specs.Sequences.{statusStored}
+use Rattle.rules.specs.Sequences.{status_stored}
 use borrow.Author.Rules.{rules}
 use mathlib.Core.Path.{sym}
 use Rattle.sequences.proofs.status_stored.Statement.{statement}
@@ -9,7 +9,7 @@ kept-stored-requires : tie.Need-kept-stored-requires
 kept-stored-requires c κs = search rules
 
 returns : tie.Need-returns
-unfolding statusStored
+unfolding status_stored
 returns c = simp (sym c.before.kept-stored.ensures)
 
 pub status-stored-spec : {M : Type 1} → statement M

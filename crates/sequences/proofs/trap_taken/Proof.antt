@@ -1,5 +1,5 @@
 -- `sequences::trap_taken` meets its contract.
-use Rattle.rules.specs.Sequences.{trapTaken}
+use Rattle.rules.specs.Sequences.{trap_taken}
 use borrow.Author.Rules.{rules}
 use mathlib.Core.Path.{sym}
 use Rattle.sequences.proofs.trap_taken.Statement.{statement}
@@ -9,7 +9,7 @@ trap-twice-requires : tie.Need-trap-twice-requires
 trap-twice-requires c κs = search rules
 
 returns : tie.Need-returns
-unfolding trapTaken
+unfolding trap_taken
 returns c = simp (sym c.before.trap-twice.ensures)
 
 pub trap-taken-spec : {M : Type 1} → statement M

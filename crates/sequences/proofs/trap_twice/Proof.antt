@@ -1,5 +1,5 @@
 -- `sequences::trap_twice` meets its contract.
-use Rattle.rules.specs.Sequences.{trapTwice}
+use Rattle.rules.specs.Sequences.{trap_twice}
 use borrow.Author.Rules.{rules}
 use mathlib.Core.Path.{sym}
 use Rattle.sequences.proofs.trap_twice.Statement.{statement}
@@ -18,7 +18,7 @@ is-trap-requires-2 : tie.Need-is-trap-requires-2
 is-trap-requires-2 c κs = search rules
 
 returns : tie.Need-returns
-unfolding trapTwice
+unfolding trap_twice
 returns c = simp (sym c.is-trap2.ensures, sym c.before.kind-of2.ensures, sym c.before.before.is-trap.ensures, sym c.before.before.before.kind-of.ensures)
 
 pub trap-twice-spec : {M : Type 1} → statement M

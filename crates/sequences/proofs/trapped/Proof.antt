@@ -14,11 +14,11 @@ service-awaited-requires c κs = search rules
 
 returns : tie.Need-returns
 unfolding trapped pick
-returns c = simp (sym c.service-awaited.ensures, c.before.before.if1.true, sym c.before.before.before.trap-taken.ensures)
+returns c = simp (sym c.service-awaited.ensures, c.before.before.if1.true, sym c.before.before.before.taken_trap.ensures)
 
 returns-2 : tie.Need-returns-2
 unfolding trapped pick
-returns-2 c = simp (c.if1.false, sym c.before.trap-taken.ensures)
+returns-2 c = simp (c.if1.false, sym c.before.taken_trap.ensures)
 
 pub trapped-spec : {M : Type 1} → statement M
 trapped-spec = tie.close (tie.spec trap-taken-requires service-awaited-requires returns returns-2)

@@ -1,5 +1,5 @@
 -- `sequences::user_started` meets its contract.
-use Rattle.rules.specs.Sequences.{userStarted}
+use Rattle.rules.specs.Sequences.{user_started}
 use borrow.Author.Rules.{rules}
 use mathlib.Core.Path.{sym}
 use Rattle.sequences.proofs.user_started.Statement.{statement}
@@ -12,7 +12,7 @@ clear-fetch-requires : tie.Need-clear-fetch-requires
 clear-fetch-requires c κs = search rules
 
 returns : tie.Need-returns
-unfolding userStarted
+unfolding user_started
 returns c = simp (sym c.clear-fetch.ensures, sym c.before.before.with-modes.ensures)
 
 pub user-started-spec : {M : Type 1} → statement M

@@ -1,6 +1,6 @@
 -- `sequences::vector_listed` meets its contract.
-use Rattle.rules.specs.Registers.{isFound, among}
-use Rattle.rules.specs.Sequences.{vectorListed}
+use Rattle.rules.specs.Registers.{is_found, among}
+use Rattle.rules.specs.Sequences.{vector_listed}
 use borrow.Author.Rules.{rules}
 use mathlib.Core.Path.{sym}
 use Rattle.sequences.proofs.vector_listed.Statement.{statement}
@@ -19,11 +19,11 @@ enum-told-2 : tie.Need-enum-told-2
 enum-told-2 c = search rules
 
 returns : tie.Need-returns
-unfolding vectorListed among isFound
+unfolding vector_listed among is_found
 returns c = simp (c.enum_told.given.1, sym c.before.before.found.ensures)
 
 returns-2 : tie.Need-returns-2
-unfolding vectorListed among isFound
+unfolding vector_listed among is_found
 returns-2 c = simp (c.enum-told2.given.1, sym c.before.before.found.ensures)
 
 pub vector-listed-spec : {M : Type 1} → statement M

@@ -1,5 +1,5 @@
 -- `shape::due_of` meets its contract.
-use Rattle.rules.specs.Steps.{dueOf, dueWhen}
+use Rattle.rules.specs.Steps.{due_of, due_when}
 use borrow.Author.Rules.{rules}
 use mathlib.Core.Path.{sym}
 use Rattle.shape.proofs.due_of.Statement.{statement}
@@ -33,19 +33,19 @@ due-if-requires : tie.Need-due-if-requires
 due-if-requires c κs = search rules
 
 returns : tie.Need-returns
-unfolding dueOf dueWhen
+unfolding due_of due_when
 returns c = simp (sym c.first-due.ensures, c.before.enum_told.given.1)
 
 returns-2 : tie.Need-returns-2
-unfolding dueOf dueWhen
+unfolding due_of due_when
 returns-2 c = simp (sym c.service-due.ensures, c.before.enum-told2.given.1)
 
 returns-3 : tie.Need-returns-3
-unfolding dueOf dueWhen
+unfolding due_of due_when
 returns-3 c = simp (sym c.service-due2.ensures, c.before.enum-told3.given.1)
 
 returns-4 : tie.Need-returns-4
-unfolding dueOf dueWhen
+unfolding due_of due_when
 returns-4 c = simp (sym c.due-if.ensures, sym c.before.start-read.ensures, c.before.before.enum-told4.given.1)
 
 pub due-of-spec : {M : Type 1} → statement M

@@ -1,6 +1,6 @@
 -- `shape::first_due` meets its contract.
 use Rattle.rules.specs.Choice.{pick}
-use Rattle.rules.specs.Steps.{dueWhen}
+use Rattle.rules.specs.Steps.{due_when}
 use borrow.Author.Rules.{rules}
 use mathlib.Core.Path.{sym}
 use Rattle.shape.proofs.first_due.Statement.{statement}
@@ -16,11 +16,11 @@ due-if-requires : tie.Need-due-if-requires
 due-if-requires c κs = search rules
 
 returns : tie.Need-returns
-unfolding dueWhen pick
+unfolding due_when pick
 returns c = simp (sym c.due-if.ensures, sym c.before.start-read.ensures, c.before.before.if1.true, sym c.before.before.before.is-fetch.ensures)
 
 returns-2 : tie.Need-returns-2
-unfolding dueWhen pick
+unfolding due_when pick
 returns-2 c = simp (c.if1.false, sym c.before.is-fetch.ensures)
 
 pub first-due-spec : {M : Type 1} → statement M

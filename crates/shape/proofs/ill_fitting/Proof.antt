@@ -1,6 +1,6 @@
 -- `shape::ill_fitting` meets its contract.
-use Rattle.rules.specs.Fetched.{isDato}
-use Rattle.rules.specs.Steps.{illFitting}
+use Rattle.rules.specs.Fetched.{is_dato}
+use Rattle.rules.specs.Steps.{ill_fitting}
 use borrow.Author.Rules.{rules}
 use mathlib.Core.Path.{sym}
 use Rattle.shape.proofs.ill_fitting.Statement.{statement}
@@ -13,7 +13,7 @@ word-dati-requires : tie.Need-word-dati-requires
 word-dati-requires c κs = search rules
 
 returns : tie.Need-returns
-unfolding illFitting isDato
+unfolding ill_fitting is_dato
 returns c = simp (sym c.word-dati.ensures, sym c.before.is-fetch.ensures)
 
 pub ill-fitting-spec : {M : Type 1} → statement M

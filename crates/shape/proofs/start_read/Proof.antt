@@ -1,5 +1,5 @@
 -- `shape::start_read` meets its contract.
-use Rattle.rules.specs.Steps.{startRead}
+use Rattle.rules.specs.Steps.{start_read}
 use borrow.Author.Rules.{rules}
 use mathlib.Core.Path.{sym}
 use Rattle.shape.proofs.start_read.Statement.{statement}
@@ -12,7 +12,7 @@ word-dati-requires : tie.Need-word-dati-requires
 word-dati-requires c κs = search rules
 
 returns : tie.Need-returns
-unfolding startRead
+unfolding start_read
 returns c = simp (sym c.word-dati.ensures, sym c.before.is-fetch.ensures)
 
 pub start-read-spec : {M : Type 1} → statement M

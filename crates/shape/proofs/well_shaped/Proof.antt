@@ -1,5 +1,5 @@
 -- `shape::well_shaped` meets its contract.
-use Rattle.rules.specs.Steps.{wellShaped}
+use Rattle.rules.specs.Steps.{well_shaped}
 use borrow.Author.Rules.{rules}
 use mathlib.Core.Path.{sym}
 use Rattle.shape.proofs.well_shaped.Statement.{statement}
@@ -15,7 +15,7 @@ good-length-requires : tie.Need-good-length-requires
 good-length-requires c κs = search rules
 
 returns : tie.Need-returns
-unfolding wellShaped
+unfolding well_shaped
 returns c = simp (sym c.good_length.ensures, sym c.before.ill-fitting.ensures, sym c.before.before.listed.ensures)
 
 pub well-shaped-spec : {M : Type 1} → statement M

@@ -1,5 +1,5 @@
 -- `status::fcn_stored` meets its contract.
-use Rattle.rules.specs.Status.{fcnStored}
+use Rattle.rules.specs.Status.{fcn_stored}
 use borrow.Author.Rules.{rules}
 use Rattle.status.proofs.fcn_stored.Statement.{statement}
 use Rattle.status.proofs.fcn_stored.Tie as tie
@@ -14,15 +14,15 @@ enum-told-3 : tie.Need-enum-told-3
 enum-told-3 c = search rules
 
 returns : tie.Need-returns
-unfolding fcnStored
+unfolding fcn_stored
 returns c = simp c.enum_told.given.1
 
 returns-2 : tie.Need-returns-2
-unfolding fcnStored
+unfolding fcn_stored
 returns-2 c = simp c.enum-told2.given.1
 
 returns-3 : tie.Need-returns-3
-unfolding fcnStored
+unfolding fcn_stored
 returns-3 c = simp c.enum-told3.given.1
 
 pub fcn-stored-spec : {M : Type 1} → statement M

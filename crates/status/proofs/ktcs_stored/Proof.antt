@@ -1,5 +1,5 @@
 -- `status::ktcs_stored` meets its contract.
-use Rattle.rules.specs.Status.{ktcsStored}
+use Rattle.rules.specs.Status.{ktcs_stored}
 use borrow.Author.Rules.{rules}
 use mathlib.Core.Path.{sym}
 use Rattle.status.proofs.ktcs_stored.Statement.{statement}
@@ -15,7 +15,7 @@ with-flags-requires : tie.Need-with-flags-requires
 with-flags-requires c κs = search rules
 
 returns : tie.Need-returns
-unfolding ktcsStored
+unfolding ktcs_stored
 returns c = simp (sym c.with-flags.ensures, sym c.before.with-modes.ensures, sym c.before.before.fcn-stored.ensures)
 
 pub ktcs-stored-spec : {M : Type 1} → statement M

@@ -1,11 +1,11 @@
 -- `status::unpacked` meets its contract.
-use Rattle.rules.specs.Status.{bitIn, unpacked}
+use Rattle.rules.specs.Status.{bit_in, unpacked}
 use mathlib.Core.Path.{refl}
 use Rattle.status.proofs.unpacked.Statement.{statement}
 use Rattle.status.proofs.unpacked.Tie as tie
 
 returns : tie.Need-returns
-unfolding unpacked bitIn
+unfolding unpacked bit_in
 returns c = refl
 
 pub unpacked-spec : {M : Type 1} → statement M

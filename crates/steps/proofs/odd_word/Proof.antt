@@ -1,11 +1,11 @@
 -- `steps::odd_word` meets its contract.
-use Rattle.rules.specs.Steps.{oddWord}
+use Rattle.rules.specs.Steps.{odd_word}
 use mathlib.Core.Path.{refl}
 use Rattle.steps.proofs.odd_word.Statement.{statement}
 use Rattle.steps.proofs.odd_word.Tie as tie
 
 returns : tie.Need-returns
-unfolding oddWord
+unfolding odd_word
 returns c = refl
 
 pub odd-word-spec : {M : Type 1} → statement M

@@ -1,5 +1,5 @@
 -- `steps::public_page` meets its contract.
-use Rattle.rules.specs.Steps.{publicPage}
+use Rattle.rules.specs.Steps.{public_page}
 use borrow.Author.Rules.{rules}
 use mathlib.Core.Path.{sym}
 use Rattle.steps.proofs.public_page.Statement.{statement}
@@ -18,15 +18,15 @@ public-bit-requires : tie.Need-public-bit-requires
 public-bit-requires c κs = search rules
 
 returns : tie.Need-returns
-unfolding publicPage
+unfolding public_page
 returns c = simp c.enum_told.given.1
 
 returns-2 : tie.Need-returns-2
-unfolding publicPage
+unfolding public_page
 returns-2 c = simp c.enum-told2.given.1
 
 returns-3 : tie.Need-returns-3
-unfolding publicPage
+unfolding public_page
 returns-3 c = simp (sym c.public-bit.ensures, c.before.before.e.given.1)
 
 pub public-page-spec : {M : Type 1} → statement M

@@ -1,5 +1,5 @@
 -- `stores::associative_effect` meets its contract.
-use Rattle.rules.specs.Order.{associativeEffect}
+use Rattle.rules.specs.Order.{associative_effect}
 use borrow.Author.Rules.{rules}
 use Rattle.stores.proofs.associative_effect.Statement.{statement}
 use Rattle.stores.proofs.associative_effect.Tie as tie
@@ -11,11 +11,11 @@ enum-known-g : tie.Need-enum-known-g
 enum-known-g c = search rules
 
 returns : tie.Need-returns
-unfolding associativeEffect
+unfolding associative_effect
 returns c = simp c.enum_told.given.1
 
 returns-2 : tie.Need-returns-2
-unfolding associativeEffect
+unfolding associative_effect
 returns-2 c = simp c.before.g.given.1
 
 pub associative-effect-spec : {M : Type 1} → statement M

@@ -1,6 +1,6 @@
 -- `stores::core_stored` meets its contract.
-use Rattle.rules.specs.Order.{coreStored}
-use Rattle.rules.specs.Unit.{withKept, withKtcs}
+use Rattle.rules.specs.Order.{core_stored}
+use Rattle.rules.specs.Unit.{with_kept, with_ktcs}
 use borrow.Author.Rules.{rules}
 use mathlib.Core.Path.{sym}
 use Rattle.stores.proofs.core_stored.Statement.{statement}
@@ -31,19 +31,19 @@ enum-told-3 : tie.Need-enum-told-3
 enum-told-3 c = search rules
 
 returns : tie.Need-returns
-unfolding coreStored withKtcs withKept
+unfolding core_stored with_ktcs with_kept
 returns c = simp (sym c.ktcs-stored.ensures, c.before.enum_told.given.1)
 
 returns-2 : tie.Need-returns-2
-unfolding coreStored withKtcs withKept
+unfolding core_stored with_ktcs with_kept
 returns-2 c = simp c.before.before.before.before.before.g.given.1 cc
 
 returns-3 : tie.Need-returns-3
-unfolding coreStored withKtcs withKept
+unfolding core_stored with_ktcs with_kept
 returns-3 c = simp c.enum-told2.given.1
 
 returns-4 : tie.Need-returns-4
-unfolding coreStored withKtcs withKept
+unfolding core_stored with_ktcs with_kept
 returns-4 c = simp c.enum-told3.given.1
 
 pub core-stored-spec : {M : Type 1} → statement M

@@ -1,5 +1,5 @@
 -- `stores::operating_effect` meets its contract.
-use Rattle.rules.specs.Order.{operatingEffect}
+use Rattle.rules.specs.Order.{operating_effect}
 use borrow.Author.Rules.{rules}
 use mathlib.Core.Path.{sym}
 use Rattle.stores.proofs.operating_effect.Statement.{statement}
@@ -24,19 +24,19 @@ merged-requires-2 : tie.Need-merged-requires-2
 merged-requires-2 c κs = search rules
 
 returns : tie.Need-returns
-unfolding operatingEffect
+unfolding operating_effect
 returns c = simp c.enum_told.given.1
 
 returns-2 : tie.Need-returns-2
-unfolding operatingEffect
+unfolding operating_effect
 returns-2 c = simp c.enum-told2.given.1
 
 returns-3 : tie.Need-returns-3
-unfolding operatingEffect
+unfolding operating_effect
 returns-3 c = simp (sym c.merged.ensures, c.before.enum-told3.given.1)
 
 returns-4 : tie.Need-returns-4
-unfolding operatingEffect
+unfolding operating_effect
 returns-4 c = simp (sym c.merged2.ensures, c.before.enum-told4.given.1)
 
 pub operating-effect-spec : {M : Type 1} → statement M

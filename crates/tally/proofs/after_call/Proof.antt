@@ -1,6 +1,6 @@
 -- `tally::after_call` meets its contract.
 use Rattle.std.proofs.Common.{sym, ◌∙◌, rules}
-use Rattle.tally.specs.Tally.{callCounted}
+use Rattle.tally.specs.Tally.{call_counted}
 use Rattle.tally.proofs.after_call.Statement.{statement}
 use Rattle.tally.proofs.after_call.Tie as tie
 
@@ -14,7 +14,7 @@ next-requires-2 : tie.Need-next-requires-2
 next-requires-2 c κs = search rules
 
 returns : tie.Need-returns
-unfolding callCounted
+unfolding call_counted
 returns c = (simp (sym c.next2.ensures, sym c.before.before.next.ensures), (c.before.call-row.ensures.0 ∙ simp c.before.before.next.ensures, c.before.call-row.ensures.1))
 
 pub after-call-spec : {M : Type 1} → statement M

@@ -1,6 +1,6 @@
 -- `tally::after_line` meets its contract.
 use Rattle.std.proofs.Common.{sym, refl, rules}
-use Rattle.tally.specs.Tally.{lineCounted}
+use Rattle.tally.specs.Tally.{line_counted}
 use Rattle.tally.proofs.after_line.Statement.{statement}
 use Rattle.tally.proofs.after_line.Tie as tie
 
@@ -8,7 +8,7 @@ next-requires : tie.Need-next-requires
 next-requires c κs = search rules
 
 returns : tie.Need-returns
-unfolding lineCounted
+unfolding line_counted
 returns c = (simp (sym c.next.ensures), refl)
 
 pub after-line-spec : {M : Type 1} → statement M

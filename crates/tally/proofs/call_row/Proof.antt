@@ -1,6 +1,6 @@
 -- `tally::call_row` meets its contract.
 use Rattle.std.proofs.Common.{◌∙◌, rules}
-use Rattle.tally.specs.Tally.{callRow, shownRow}
+use Rattle.tally.specs.Tally.{call_row, shown_row}
 use Rattle.tally.proofs.call_row.Statement.{statement}
 use Rattle.tally.proofs.call_row.Tie as tie
 
@@ -17,7 +17,7 @@ row-requires : tie.Need-row-requires
 row-requires c κs = search rules
 
 returns : tie.Need-returns
-unfolding callRow shownRow
+unfolding call_row shown_row
 returns c = (c.row.ensures.0 ∙ simp (c.before.packed.ensures, c.before.before.printed-as.ensures, c.before.before.before.shown.ensures), c.row.ensures.1)
 
 pub call-row-spec : {M : Type 1} → statement M

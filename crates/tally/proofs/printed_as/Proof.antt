@@ -1,5 +1,5 @@
 -- `tally::printed_as` meets its contract.
-use Rattle.tally.specs.Tally.{printedAs}
+use Rattle.tally.specs.Tally.{printed_as}
 use Rattle.std.proofs.Common.{rules}
 use Rattle.tally.proofs.printed_as.Statement.{statement}
 use Rattle.tally.proofs.printed_as.Tie as tie
@@ -14,11 +14,11 @@ enum_told : tie.Need-enum-told
 enum_told c = search rules
 
 returns : tie.Need-returns
-unfolding printedAs
+unfolding printed_as
 returns c = simp c.before.p.given.1
 
 returns-2 : tie.Need-returns-2
-unfolding printedAs
+unfolding printed_as
 returns-2 c = simp c.enum_told.given.1
 
 pub printed-as-spec : {M : Type 1} → statement M

@@ -1,5 +1,5 @@
 -- `transfer::stored_in` meets its contract.
-use Rattle.rules.specs.Order.{outcome, storedIn}
+use Rattle.rules.specs.Order.{outcome, stored_in}
 use mathlib.Core.Path.{sym}
 use borrow.Author.Rules.{rules}
 use Rattle.transfer.proofs.stored_in.Statement.{statement}
@@ -21,11 +21,11 @@ associative-effect-requires : tie.Need-associative-effect-requires
 associative-effect-requires c κs = search rules
 
 returns : tie.Need-returns
-unfolding storedIn outcome
+unfolding stored_in outcome
 returns c = simp (sym c.operating-effect.ensures, sym c.before.core-stored.ensures, c.before.before.before.before.g.given.1)
 
 returns-2 : tie.Need-returns-2
-unfolding storedIn outcome
+unfolding stored_in outcome
 returns-2 c = simp (sym c.associative-effect.ensures, c.before.before.g2.given.1)
 
 pub stored-in-spec : {M : Type 1} → statement M

@@ -1,7 +1,7 @@
 -- `transfer::transferred` meets its contract.
 use Rattle.rules.specs.Choice.{pick}
 use Rattle.rules.specs.Order.{transferred, outcome}
-use Rattle.rules.proofs.Laws.RunLaws.{run-pick, run-done, run-readAt}
+use Rattle.rules.proofs.Laws.RunLaws.{run-pick, run-done, run-read_at}
 use mathlib.Core.Path.{sym}
 use borrow.Author.Tests.{lt-ltb, le-ltb}
 use borrow.Author.Rules.{rules}
@@ -16,7 +16,7 @@ ended-requires c κs = search rules
 
 returns : tie.Need-returns
 unfolding transferred outcome pick
-returns c = simp (run-pick, run-done, run-readAt, c.ended.ensures, sym c.before.before.word_read.ensures, lt-ltb _ _ c.before.before.before.if1.true)
+returns c = simp (run-pick, run-done, run-read_at, c.ended.ensures, sym c.before.before.word_read.ensures, lt-ltb _ _ c.before.before.before.if1.true)
 
 part-of-requires : tie.Need-part-of-requires
 part-of-requires c κs = search rules

@@ -1,5 +1,5 @@
 -- `transfer::word_in` meets its contract.
-use Rattle.rules.specs.Order.{sourceIn, wordFrom}
+use Rattle.rules.specs.Order.{source_in, word_from}
 use mathlib.Core.Path.{sym}
 use borrow.Author.Rules.{rules}
 use Rattle.transfer.proofs.word_in.Statement.{statement}
@@ -18,11 +18,11 @@ peeked-requires : tie.Need-peeked-requires
 peeked-requires c κs = search rules
 
 returns : tie.Need-returns
-unfolding sourceIn wordFrom
+unfolding source_in word_from
 returns c = simp (sym c.operating-word.ensures, c.before.before.g.given.1)
 
 returns-2 : tie.Need-returns-2
-unfolding sourceIn wordFrom
+unfolding source_in word_from
 returns-2 c = simp (sym c.peeked.ensures, c.before.before.g2.given.1)
 
 pub word-in-spec : {M : Type 1} → statement M

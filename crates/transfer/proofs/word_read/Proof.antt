@@ -1,5 +1,5 @@
 -- `transfer::word_read` meets its contract.
-use Rattle.rules.specs.Order.{sourceAt, wordFrom, wordRead}
+use Rattle.rules.specs.Order.{source_at, word_from, word_read}
 use mathlib.Core.Path.{sym}
 use borrow.Author.Rules.{rules}
 use Rattle.transfer.proofs.word_read.Statement.{statement}
@@ -21,11 +21,11 @@ word-in-requires : tie.Need-word-in-requires
 word-in-requires c κs = search rules
 
 returns : tie.Need-returns
-unfolding sourceAt wordFrom wordRead
+unfolding source_at word_from word_read
 returns c = simp (sym c.word_at.ensures, sym c.before.even-of.ensures, c.before.before.enum_told.given.1)
 
 returns-2 : tie.Need-returns-2
-unfolding sourceAt wordFrom wordRead
+unfolding source_at word_from word_read
 returns-2 c = simp (sym c.word_in.ensures, c.before.before.t.given.1)
 
 pub word-read-spec : {M : Type 1} → statement M

@@ -1,5 +1,5 @@
 -- `unit::cells_after` meets its contract.
-use Rattle.rules.specs.Calls.{cellsAfter}
+use Rattle.rules.specs.Calls.{cells_after}
 use mathlib.Core.Path.{sym}
 use borrow.Author.Rules.{rules}
 use Rattle.unit.proofs.cells_after.Statement.{statement}
@@ -33,27 +33,27 @@ pad-stored-requires : tie.Need-pad-stored-requires
 pad-stored-requires c κs = search rules
 
 returns : tie.Need-returns
-unfolding cellsAfter
+unfolding cells_after
 returns c = simp c.enum_told.given.1
 
 returns-2 : tie.Need-returns-2
-unfolding cellsAfter
+unfolding cells_after
 returns-2 c = simp (sym c.forgotten.ensures, c.before.before.e.given.1)
 
 returns-3 : tie.Need-returns-3
-unfolding cellsAfter
+unfolding cells_after
 returns-3 c = simp (sym c.emptied.ensures, c.before.enum-told2.given.1)
 
 returns-4 : tie.Need-returns-4
-unfolding cellsAfter
+unfolding cells_after
 returns-4 c = simp c.enum-told3.given.1
 
 returns-5 : tie.Need-returns-5
-unfolding cellsAfter
+unfolding cells_after
 returns-5 c = simp c.enum-told4.given.1
 
 returns-6 : tie.Need-returns-6
-unfolding cellsAfter
+unfolding cells_after
 returns-6 c = simp (sym c.pad-stored.ensures, c.before.before.e2.given.1)
 
 pub cells-after-spec : {M : Type 1} → statement M

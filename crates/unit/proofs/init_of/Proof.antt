@@ -1,5 +1,5 @@
 -- `unit::init_of` meets its contract.
-use Rattle.rules.specs.Calls.{initOf}
+use Rattle.rules.specs.Calls.{init_of}
 use Rattle.rules.specs.Order.{outcome}
 use mathlib.Core.Path.{sym}
 use borrow.Author.Rules.{rules}
@@ -10,7 +10,7 @@ init-core-requires : tie.Need-init-core-requires
 init-core-requires c κs = search rules
 
 returns : tie.Need-returns
-unfolding initOf outcome
+unfolding init_of outcome
 returns c = simp (sym c.init-core.ensures)
 
 pub init-of-spec : {M : Type 1} → statement M

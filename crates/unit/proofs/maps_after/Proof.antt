@@ -1,5 +1,5 @@
 -- `unit::maps_after` meets its contract.
-use Rattle.rules.specs.Calls.{mapsAfter}
+use Rattle.rules.specs.Calls.{maps_after}
 use borrow.Author.Rules.{rules}
 use Rattle.unit.proofs.maps_after.Statement.{statement}
 use Rattle.unit.proofs.maps_after.Tie as tie
@@ -23,27 +23,27 @@ enum-told-5 : tie.Need-enum-told-5
 enum-told-5 c = search rules
 
 returns : tie.Need-returns
-unfolding mapsAfter
+unfolding maps_after
 returns c = simp c.enum_told.given.1
 
 returns-2 : tie.Need-returns-2
-unfolding mapsAfter
+unfolding maps_after
 returns-2 c = simp c.enum-told2.given.1
 
 returns-3 : tie.Need-returns-3
-unfolding mapsAfter
+unfolding maps_after
 returns-3 c = simp c.before.e.given.1
 
 returns-4 : tie.Need-returns-4
-unfolding mapsAfter
+unfolding maps_after
 returns-4 c = simp c.enum-told3.given.1
 
 returns-5 : tie.Need-returns-5
-unfolding mapsAfter
+unfolding maps_after
 returns-5 c = simp c.enum-told4.given.1
 
 returns-6 : tie.Need-returns-6
-unfolding mapsAfter
+unfolding maps_after
 returns-6 c = simp c.enum-told5.given.1
 
 pub maps-after-spec : {M : Type 1} → statement M

@@ -1,5 +1,5 @@
 -- `unit::store` meets its contract.
-use Rattle.rules.specs.Calls.{memoryAfter}
+use Rattle.rules.specs.Calls.{memory_after}
 use mathlib.Core.Path.{sym}
 use borrow.Author.Rules.{rules}
 use Rattle.unit.proofs.store.Statement.{statement}
@@ -30,33 +30,33 @@ enum-told-4 : tie.Need-enum-told-4
 enum-told-4 c = search rules
 
 returns : tie.Need-returns
-unfolding memoryAfter
+unfolding memory_after
 returns c = simp c.enum_told.given.1
 
 returns-2 : tie.Need-returns-2
-unfolding memoryAfter
+unfolding memory_after
 returns-2 c = simp c.enum-told2.given.1
 
 returns-3 : tie.Need-returns-3
-unfolding memoryAfter
+unfolding memory_after
 returns-3 c = simp c.enum-told3.given.1
 
 same_length : tie.Need-same-length
 same_length c = search rules
 
 returns-4 : tie.Need-returns-4
-unfolding memoryAfter
+unfolding memory_after
 returns-4 c = simp (sym c.before.before.Store-word.ensures, c.before.before.before.before.before.e.given.1)
 
 same-length-2 : tie.Need-same-length-2
 same-length-2 c = search rules
 
 returns-5 : tie.Need-returns-5
-unfolding memoryAfter
+unfolding memory_after
 returns-5 c = simp (sym c.before.before.IsStore-byte.ensures, c.before.before.before.before.before.e2.given.1)
 
 returns-6 : tie.Need-returns-6
-unfolding memoryAfter
+unfolding memory_after
 returns-6 c = simp c.enum-told4.given.1
 
 pub store_spec : {M : Type 1} → statement M

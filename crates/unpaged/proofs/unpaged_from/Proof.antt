@@ -1,5 +1,5 @@
 -- `unpaged::unpaged_from` meets its contract.
-use Rattle.rules.specs.Order.{unpagedFrom}
+use Rattle.rules.specs.Order.{unpaged_from}
 use Rattle.rules.specs.Choice.{pick}
 use Rattle.rules.proofs.Laws.RunLaws.{run-done}
 use mathlib.Core.Path.{sym}
@@ -17,7 +17,7 @@ ended-requires : tie.Need-ended-requires
 ended-requires c κs = search rules
 
 returns : tie.Need-returns
-unfolding unpagedFrom pick
+unfolding unpaged_from pick
 returns c = simp (run-done, c.ended.ensures, sym c.before.refused.ensures, c.before.before.if1.true, sym c.before.before.before.odd-word.ensures)
 
 noted-requires : tie.Need-noted-requires
@@ -33,7 +33,7 @@ unpaged-target-requires : tie.Need-unpaged-target-requires
 unpaged-target-requires c κs = search rules
 
 returns-2 : tie.Need-returns-2
-unfolding unpagedFrom pick
+unfolding unpaged_from pick
 returns-2 c = simp (sym c.unpaged-target.ensures, sym c.before.place_of.ensures, sym c.before.before.unpaged-at.ensures.0, sym c.before.before.before.noted.ensures, c.before.before.before.before.if1.false, sym c.before.before.before.before.before.odd-word.ensures)
 
 pub unpaged-from-spec : {M : Type 1} → statement M

@@ -1,7 +1,7 @@
 -- `unpaged::unpaged_reached` meets its contract.
-use Rattle.rules.specs.Order.{unpagedReached}
+use Rattle.rules.specs.Order.{unpaged_reached}
 use Rattle.rules.specs.Choice.{pick}
-use Rattle.rules.proofs.Laws.RunLaws.{run-done, run-readAt}
+use Rattle.rules.proofs.Laws.RunLaws.{run-done, run-read_at}
 use mathlib.Core.Path.{sym}
 use borrow.Author.Rules.{rules}
 use Rattle.unpaged.proofs.unpaged_reached.Statement.{statement}
@@ -20,14 +20,14 @@ ended-requires : tie.Need-ended-requires
 ended-requires c κs = search rules
 
 returns : tie.Need-returns
-unfolding unpagedReached pick
-returns c = simp (run-done, run-readAt, c.ended.ensures, sym c.before.fetched.ensures, sym c.before.before.word_read.ensures, c.before.before.before.if1.true, sym c.before.before.before.before.is-fetch.ensures)
+unfolding unpaged_reached pick
+returns c = simp (run-done, run-read_at, c.ended.ensures, sym c.before.fetched.ensures, sym c.before.before.word_read.ensures, c.before.before.before.if1.true, sym c.before.before.before.before.is-fetch.ensures)
 
 transferred-requires : tie.Need-transferred-requires
 transferred-requires c κs = search rules
 
 returns-2 : tie.Need-returns-2
-unfolding unpagedReached pick
+unfolding unpaged_reached pick
 returns-2 c = simp (sym c.transferred.ensures, c.before.if1.false, sym c.before.before.is-fetch.ensures)
 
 pub unpaged-reached-spec : {M : Type 1} → statement M

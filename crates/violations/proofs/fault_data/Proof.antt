@@ -1,5 +1,5 @@
 -- `violations::fault_data` meets its contract.
-use Rattle.rules.specs.Sequences.{faultData}
+use Rattle.rules.specs.Sequences.{fault_data}
 use borrow.Author.Rules.{rules}
 use mathlib.Core.Path.{sym}
 use Rattle.violations.proofs.fault_data.Statement.{statement}
@@ -30,31 +30,31 @@ enum-known-f : tie.Need-enum-known-f
 enum-known-f c = search rules
 
 returns : tie.Need-returns
-unfolding faultData
+unfolding fault_data
 returns c = simp (c.enum_told.given.1, sym c.before.before.data-lines.ensures)
 
 returns-2 : tie.Need-returns-2
-unfolding faultData
+unfolding fault_data
 returns-2 c = simp (c.enum-told2.given.1, sym c.before.before.data-lines.ensures)
 
 returns-3 : tie.Need-returns-3
-unfolding faultData
+unfolding fault_data
 returns-3 c = simp (c.enum-told3.given.1, sym c.before.before.data-lines.ensures)
 
 returns-4 : tie.Need-returns-4
-unfolding faultData
+unfolding fault_data
 returns-4 c = simp (c.enum-told4.given.1, sym c.before.before.data-lines.ensures)
 
 returns-5 : tie.Need-returns-5
-unfolding faultData
+unfolding fault_data
 returns-5 c = simp (c.enum-told5.given.1, sym c.before.before.data-lines.ensures)
 
 returns-6 : tie.Need-returns-6
-unfolding faultData
+unfolding fault_data
 returns-6 c = simp (c.enum-told6.given.1, sym c.before.before.data-lines.ensures)
 
 returns-7 : tie.Need-returns-7
-unfolding faultData
+unfolding fault_data
 returns-7 c = simp c.before.f.given.1
 
 pub fault-data-spec : {M : Type 1} → statement M

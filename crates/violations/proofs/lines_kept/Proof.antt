@@ -1,5 +1,5 @@
 -- `violations::lines_kept` meets its contract.
-use Rattle.rules.specs.Sequences.{linesKept}
+use Rattle.rules.specs.Sequences.{lines_kept}
 use borrow.Author.Rules.{rules}
 use mathlib.Core.Path.{sym}
 use Rattle.violations.proofs.lines_kept.Statement.{statement}
@@ -12,7 +12,7 @@ kept-stored-requires : tie.Need-kept-stored-requires
 kept-stored-requires c κs = search rules
 
 returns : tie.Need-returns
-unfolding linesKept
+unfolding lines_kept
 returns c = simp (sym c.kept-stored.ensures, sym c.before.address_kept.ensures)
 
 pub lines-kept-spec : {M : Type 1} → statement M

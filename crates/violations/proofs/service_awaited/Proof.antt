@@ -1,5 +1,5 @@
 -- `violations::service_awaited` meets its contract.
-use Rattle.rules.specs.Sequences.{serviceAwaited}
+use Rattle.rules.specs.Sequences.{service_awaited}
 use borrow.Author.Rules.{rules}
 use mathlib.Core.Path.{sym}
 use Rattle.violations.proofs.service_awaited.Statement.{statement}
@@ -12,7 +12,7 @@ clear-fetch-requires : tie.Need-clear-fetch-requires
 clear-fetch-requires c κs = search rules
 
 returns : tie.Need-returns
-unfolding serviceAwaited
+unfolding service_awaited
 returns c = simp (sym c.clear-fetch.ensures, sym c.before.with-modes.ensures)
 
 pub service-awaited-spec : {M : Type 1} → statement M

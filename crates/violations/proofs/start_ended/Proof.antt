@@ -1,5 +1,5 @@
 -- `violations::start_ended` meets its contract.
-use Rattle.rules.specs.Sequences.{startEnded}
+use Rattle.rules.specs.Sequences.{start_ended}
 use borrow.Author.Rules.{rules}
 use mathlib.Core.Path.{sym}
 use Rattle.violations.proofs.start_ended.Statement.{statement}
@@ -12,7 +12,7 @@ with-modes-requires : tie.Need-with-modes-requires
 with-modes-requires c κs = search rules
 
 returns : tie.Need-returns
-unfolding startEnded
+unfolding start_ended
 returns c = simp (sym c.with-modes.ensures, sym c.before.fcn-ended.ensures)
 
 pub start-ended-spec : {M : Type 1} → statement M

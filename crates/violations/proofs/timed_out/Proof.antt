@@ -1,6 +1,6 @@
 -- `violations::timed_out` meets its contract.
-use Rattle.rules.specs.Sequences.{timedOut}
-use Rattle.rules.specs.Unit.{withKept}
+use Rattle.rules.specs.Sequences.{timed_out}
+use Rattle.rules.specs.Unit.{with_kept}
 use borrow.Author.Rules.{rules}
 use mathlib.Core.Path.{sym}
 use Rattle.violations.proofs.timed_out.Statement.{statement}
@@ -13,7 +13,7 @@ lines-kept-requires : tie.Need-lines-kept-requires
 lines-kept-requires c κs = search rules
 
 returns : tie.Need-returns
-unfolding timedOut withKept
+unfolding timed_out with_kept
 returns c = simp (sym c.lines-kept.ensures, sym c.before.data-lines.ensures)
 
 pub timed-out-spec : {M : Type 1} → statement M
