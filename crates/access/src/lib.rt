@@ -1,4 +1,5 @@
 // The whole access: steps 1 and 2, the sequence accesses, and on to the paged or the unpaged steps.
+#![tactic(auto)]
 ghost use Rattle.std.specs.Prelude.{◌≡◌};
 ghost use Rattle.rules.specs.Choice.{pick};
 ghost use Rattle.rules.specs.Program.{run};

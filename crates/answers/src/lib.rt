@@ -1,4 +1,5 @@
 // What the host sees of an answer: its number, its data and its physical address (01, "What comes back").
+#![tactic(auto)]
 ghost use Rattle.std.specs.Prelude.{◌≡◌};
 ghost use Rattle.rules.specs.Answers.{shown_as, fault_shown, shown};
 

@@ -1,4 +1,5 @@
 // What the bench program's arguments ask for, and what it says where that is no unit.
+#![tactic(auto)]
 ghost use Rattle.std.specs.Prelude.{◌≡◌};
 ghost use Rattle.arguments.specs.Asked.{same, by_count, asked_for};
 ghost use Rattle.arguments.specs.Told.{refusal_text, usage_text};
@@ -7,7 +8,7 @@ use fieldtext::Figures;
 use rules::Making;
 
 // A unit with a number of cells, which comes to be or not; or nothing that the program knows of.
-#[derive(Drop)]
+#[derive(Clone, Copy)]
 pub enum Asked {
     Unit(Making),
     BadUsage,

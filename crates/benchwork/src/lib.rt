@@ -1,4 +1,5 @@
 // The bench program's work, from bytes of input to bytes of output; reading and writing are left to the program.
+#![tactic(auto)]
 ghost use Rattle.std.specs.Prelude.{◌≡◌};
 ghost use Rattle.tally.specs.Tally.{Holds};
 ghost use Rattle.benchwork.specs.Bytes.{fresh_progress, stepped, ended};
@@ -9,14 +10,14 @@ use rules::Size;
 use tally::Bench;
 
 // The bench amid its input: the bytes of a line are gathered until the line ends.
-#[derive(Drop)]
+#[derive(Clone, Copy)]
 pub struct Progress {
     pub bench: Bench,
     pub gather: Gather,
 }
 
 // What a byte leaves, and what it prints.
-#[derive(Drop)]
+#[derive(Clone, Copy)]
 pub struct Said {
     pub progress: Progress,
     pub text: Text,

@@ -1,25 +1,26 @@
 // A line's fields, which are cut at each tab, and the numbers in them; and a count, which is read digit by digit like them.
+#![tactic(auto)]
 ghost use Rattle.std.specs.Prelude.{◌≡◌, ◌&&◌, ◌≤◌, length};
 ghost use Rattle.fieldtext.specs.Number.{is_digit, digits_of, number_of, decimal_of};
 ghost use Rattle.fieldtext.specs.Cut.{head_of, fields_at, none};
 ghost use Rattle.fieldtext.specs.Reading.{Took};
 
 // What digits say: bytes that are no digits of their base, none or too many say nothing.
-#[derive(Drop)]
+#[derive(Clone, Copy)]
 pub enum Figures {
     Worth(u64),
     Other,
 }
 
 // What a field says, read as a number.
-#[derive(Drop)]
+#[derive(Clone, Copy)]
 pub enum Number {
     Value(u16),
     NotOne,
 }
 
 // A place in the line, past the tab of the number read last; not good once a field was missing or no number.
-#[derive(Drop)]
+#[derive(Clone, Copy)]
 pub struct Reading {
     pub at: usize,
     pub good: bool,

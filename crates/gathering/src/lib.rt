@@ -1,11 +1,12 @@
 // Lines gathered from the input byte by byte. No good line has more than 36 bytes, so 40 are enough to tell what a line asks for.
+#![tactic(auto)]
 ghost use Rattle.std.specs.Prelude.{◌≡◌};
 ghost use Rattle.gathering.specs.Gather.{nothing_yet, push_of, line_in};
 
 use linetext::Line;
 
 // The bytes of a line so far: the first `len` of `buf`, or, where `len` is above 40, more than it holds.
-#[derive(Drop)]
+#[derive(Clone, Copy)]
 pub struct Gather {
     pub buf: [u8; 40],
     pub len: usize,

@@ -1,10 +1,13 @@
 // What a fetched word is sorted into (01, "Order in one access").
+#![tactic(auto)]
+
 ghost use Rattle.std.specs.Prelude.{◌≡◌};
 ghost use Rattle.rules.specs.Fetched.{kind_of};
 
 use rules::Kind;
 
 // "JSR 004000-004777o, RTS 000200-000207o, RTI 000002o, TRAP 104400-104777o"; the privileged HALT 0, WAIT 1, RESET 5; the entry point 000400o.
+#[tactic(auto, unfolding(rules::specs::Fetched::kind_of, rules::specs::Fetched::between, rules::specs::Choice::pick))]
 pub fn kind_of(word: u16) -> Kind
     ensures { result ≡ kind_of word }
 {

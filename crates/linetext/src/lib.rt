@@ -1,4 +1,5 @@
 // One line of the bench program's input, without its newline: a letter and then octal numbers, with tabs between.
+#![tactic(auto)]
 ghost use Rattle.std.specs.Prelude.{◌≡◌, true};
 ghost use Rattle.fieldtext.specs.Cut.{fields_at};
 ghost use Rattle.fieldtext.specs.Reading.{Took};
@@ -8,7 +9,7 @@ ghost use Rattle.linetext.specs.Asked.{access_in};
 use fieldtext::Reading;
 
 // `A` operation state width address data, as the line has them.
-#[derive(Drop)]
+#[derive(Clone, Copy)]
 pub struct Fields {
     pub op: u16,
     pub state: u16,
@@ -18,7 +19,7 @@ pub struct Fields {
 }
 
 // What a line asks for; anything that is no line of these is bad.
-#[derive(Drop)]
+#[derive(Clone, Copy)]
 pub enum Line {
     Store(u16, u16),
     Access(Fields),

@@ -1,4 +1,5 @@
 // The paged access: steps 5 to 11, the window's inner access among them.
+#![tactic(auto)]
 ghost use Rattle.std.specs.Prelude.{◌≡◌};
 ghost use Rattle.rules.specs.Program.{run};
 ghost use Rattle.rules.specs.Choice.{pick};

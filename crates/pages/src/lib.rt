@@ -1,5 +1,7 @@
 // Pages and addresses: unpaged or paged, page and offset, the bits of map words, and where in a map page each word stands (01, "From address to entry").
 // A page number has 7 bits and is a u8, a physical page has 9 and is a u16; every function takes any value of these.
+#![tactic(auto)]
+
 ghost use Rattle.std.specs.Prelude.{◌≡◌, ◌<◌};
 ghost use Rattle.rules.specs.Maps.{unpaged, unpaged_at, page_of, physical_at, resident_bit, public_bit, write_bit};
 ghost use Rattle.rules.specs.Maps.{low9, high7, simple, upper_at, lower_at, pointed_at, exec_zero, tag_of};
@@ -7,6 +9,7 @@ ghost use Rattle.rules.specs.Maps.{low9, high7, simple, upper_at, lower_at, poin
 // Addresses ------------------------------------------------------------------------------------------------------------
 
 // "Unpaged: FCN 0, or FCN 1 in a state other than DESTINATION or EXECUTE."
+#[tactic(auto, unfolding(rules::specs::Maps::unpaged))]
 pub fn unpaged(fcn: u16, state: u64) -> bool
     ensures { result ≡ unpaged fcn state }
 {
@@ -21,6 +24,7 @@ pub fn unpaged(fcn: u16, state: u64) -> bool
 }
 
 // "Physical equals virtual, but 160000o-177777o become 760000o-777777o (PDP-11 rule)."
+#[tactic(auto, unfolding(rules::specs::Maps::unpaged_at, rules::specs::Choice::pick))]
 pub fn unpaged_at(a: u16) -> usize
     ensures { (result ≡ unpaged_at a) × (result < 0o1000000) }
 {
@@ -29,6 +33,7 @@ pub fn unpaged_at(a: u16) -> usize
 }
 
 // "page p is the top 7 bits, the offset the low 9"
+#[tactic(auto, unfolding(rules::specs::Maps::page_of, rules::specs::Maps::high7))]
 pub fn page_of(a: u16) -> u8
     ensures { (result ≡ page_of a) × (result < 128) }
 {
@@ -36,6 +41,7 @@ pub fn page_of(a: u16) -> u8
 }
 
 // The address in a physical page, with the offset of a virtual one.
+#[tactic(auto, unfolding(rules::specs::Maps::low9, rules::specs::Maps::physical_at))]
 pub fn physical_at(page: u16, a: u16) -> usize
     ensures { (result ≡ physical_at page a) × (result < 0o200000000) }
 {
@@ -45,18 +51,21 @@ pub fn physical_at(page: u16, a: u16) -> usize
 // Map words, map registers and pointers --------------------------------------------------------------------------------
 
 // "bit 15 resident, 14 public, 13 write-enabled"
+#[tactic(auto, unfolding(rules::specs::Maps::resident_bit, rules::specs::Status::bit_in))]
 pub fn resident_bit(w: u16) -> bool
     ensures { result ≡ resident_bit w }
 {
     w / 0o100000 % 2 == 1
 }
 
+#[tactic(auto, unfolding(rules::specs::Maps::public_bit, rules::specs::Status::bit_in))]
 pub fn public_bit(w: u16) -> bool
     ensures { result ≡ public_bit w }
 {
     w / 0o40000 % 2 == 1
 }
 
+#[tactic(auto, unfolding(rules::specs::Maps::write_bit, rules::specs::Status::bit_in))]
 pub fn write_bit(w: u16) -> bool
     ensures { result ≡ write_bit w }
 {
@@ -64,6 +73,7 @@ pub fn write_bit(w: u16) -> bool
 }
 
 // The physical page of a map word, a map register (M) or a pointer (m).
+#[tactic(auto, unfolding(rules::specs::Maps::low9))]
 pub fn low9(w: u16) -> u16
     ensures { (result ≡ low9 w) × (result < 512) }
 {
@@ -71,6 +81,7 @@ pub fn low9(w: u16) -> u16
 }
 
 // The last simple page of a map register (N), or the entry that a pointer names (n).
+#[tactic(auto, unfolding(rules::specs::Maps::high7))]
 pub fn high7(w: u16) -> u8
     ensures { (result ≡ high7 w) × (result < 128) }
 {
@@ -78,6 +89,7 @@ pub fn high7(w: u16) -> u8
 }
 
 // "pages 0 to N are simple" (T-02; source 4.2.2.1, 4.2.2.2): the one boundary of both maps
+#[tactic(auto, unfolding(rules::specs::Maps::simple))]
 pub fn simple(register: u16, p: u8) -> bool
     ensures { result ≡ simple register p }
 {
@@ -85,6 +97,7 @@ pub fn simple(register: u16, p: u8) -> bool
 }
 
 // "512·M(KTEM)+256+2p", "512·M(KTUM)+256+2p", "512·m+256+2n": the upper half of a map page has the simple words and the pointers.
+#[tactic(auto, unfolding(rules::specs::Maps::upper_at))]
 pub fn upper_at(page: u16, p: u8) -> usize
     ensures { result ≡ upper_at page p }
 {
@@ -92,6 +105,7 @@ pub fn upper_at(page: u16, p: u8) -> usize
 }
 
 // "512·M(KTUM)+2p": the lower half of the user's has the exec pages that are not simple.
+#[tactic(auto, unfolding(rules::specs::Maps::lower_at))]
 pub fn lower_at(page: u16, p: u8) -> usize
     ensures { result ≡ lower_at page p }
 {
@@ -99,6 +113,7 @@ pub fn lower_at(page: u16, p: u8) -> usize
 }
 
 // "a pointer, high 7 bits n, low 9 bits m; the map word is at 512·m+256+2n"
+#[tactic(auto, unfolding(rules::specs::Maps::pointed_at))]
 pub fn pointed_at(pointer: u16) -> usize
     ensures { result ≡ pointed_at pointer }
 {
@@ -108,6 +123,7 @@ pub fn pointed_at(pointer: u16) -> usize
 // Pages by their tags ---------------------------------------------------------------------------------------------------
 
 // "Exec page 0": the only page that has neither map word nor cell.
+#[tactic(auto, unfolding(rules::specs::Maps::exec_zero))]
 pub fn exec_zero(user: bool, p: u8) -> bool
     ensures { result ≡ exec_zero user p }
 {
@@ -115,6 +131,7 @@ pub fn exec_zero(user: bool, p: u8) -> bool
 }
 
 // "Tag: 128 for user plus p; 0 means empty."
+#[tactic(auto, unfolding(rules::specs::Maps::tag_of, rules::specs::Choice::pick))]
 pub fn tag_of(user: bool, p: u8) -> u16
     ensures { result ≡ tag_of user p }
 {

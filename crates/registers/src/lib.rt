@@ -1,5 +1,6 @@
 // The register table: which address is which register, the parts of a word that a store covers, and what is read of the core and the map
 // registers (01, "Registers").
+#![tactic(auto)]
 ghost use Rattle.std.specs.Prelude.{◌≡◌, get_or, set, take};
 ghost use Rattle.rules.specs.Registers.{found_from, register_of, place_in, place_of, part_of, merged, operating_word};
 

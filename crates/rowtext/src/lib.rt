@@ -1,18 +1,19 @@
 // The lines that the bench program prints. Each is put together from its end, since a number's last digit is found first.
+#![tactic(auto)]
 ghost use Rattle.std.specs.Prelude.{◌≡◌, [], ◌∷◌, ◌++◌, ◌≤◌, drop};
 ghost use Rattle.rowtext.specs.Digits.{octal6, decimal};
 ghost use Rattle.rowtext.specs.Row.{address_text, row_of, bad_of, header_of};
 ghost use Rattle.rowtext.specs.Written.{no_text, Room, Ahead};
 
 // A line of the output: the bytes from `from` on.
-#[derive(Drop)]
+#[derive(Clone, Copy)]
 pub struct Text {
     pub bytes: [u8; 64],
     pub from: usize,
 }
 
 // A physical address as a row prints it: six digits, or a dash where the call has none.
-#[derive(Drop)]
+#[derive(Clone, Copy)]
 pub enum Printed {
     At(u32),
     Dash,

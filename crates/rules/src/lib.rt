@@ -1,11 +1,12 @@
 // The types that everything speaks of: the unit's state, its calls and answers, and what the steps of an access hand on.
 // There is no code here. What these types mean is said in specs/; docs/RULES.md leads there from each sentence of document 01 that rules
 // something.
+#![tactic(auto)]
 
 // The unit and its calls -----------------------------------------------------------------------------------------------
 
 // KTCS by its named fields. The packing into 16 bits is `packed` of specs/Status.antt.
-#[derive(Drop)]
+#[derive(Clone, Copy)]
 pub struct Ktcs {
     // FCN, bits 1-0: 0 unpaged, 1 destination only, 2 normal paging, 3 start user.
     pub fcn: u16,
@@ -30,7 +31,7 @@ pub struct Ktcs {
 }
 
 // The fetch memory: the last two fetched words, the counts since, each of which stops at 2, and the public flag.
-#[derive(Drop)]
+#[derive(Clone, Copy)]
 pub struct Fetch {
     pub newer: u16,
     pub older: u16,
@@ -40,7 +41,7 @@ pub struct Fetch {
 }
 
 // What the unit is waiting for.
-#[derive(Drop)]
+#[derive(Clone, Copy)]
 pub enum Wait {
     Nothing,
     // The first SERVICE DATO, which brings the processor's status.
@@ -55,7 +56,7 @@ pub enum Wait {
 pub const KEPT: usize = 6;
 
 // All of the unit but the map registers and the cells. The unit with no cells has this, the map registers, and a size for its addresses.
-#[derive(Drop)]
+#[derive(Clone, Copy)]
 pub struct Core {
     pub ktcs: Ktcs,
     pub kept: [u16; KEPT],
@@ -64,28 +65,28 @@ pub struct Core {
 }
 
 // The two map registers, which stand apart because a store into one also empties the cells.
-#[derive(Drop)]
+#[derive(Clone, Copy)]
 pub struct Maps {
     pub ktum: u16,
     pub ktem: u16,
 }
 
 // A cell: the tag of the page that it holds, or 0 where it is empty, and its scratchpad word.
-#[derive(Drop)]
+#[derive(Clone, Copy)]
 pub struct Cell {
     pub tag: u16,
     pub word: u16,
 }
 
 // How many cells a unit is made with: 8 or 24, and no other number. How many each is, is said by `count_of` of specs/Unit.antt.
-#[derive(Drop)]
+#[derive(Clone, Copy)]
 pub enum Size {
     Eight,
     TwentyFour,
 }
 
 // What comes of asking for a unit with a number of cells.
-#[derive(Drop)]
+#[derive(Clone, Copy)]
 pub enum Making {
     With(Size),
     // A number that no unit is made with.
@@ -97,14 +98,14 @@ pub const ROOM: usize = 24;
 
 // The cells and the replacement counter, which counts from 10 octal. A unit has the first so many of the list as its size says; those
 // past them are not there: no answer, no memory and no cell that is there depends on them.
-#[derive(Drop)]
+#[derive(Clone, Copy)]
 pub struct Cells {
     pub size: Size,
     pub list: [Cell; ROOM],
     pub counter: u16,
 }
 
-#[derive(Drop)]
+#[derive(Clone, Copy)]
 pub struct Unit {
     pub core: Core,
     pub maps: Maps,
@@ -112,7 +113,7 @@ pub struct Unit {
 }
 
 // One access as the processor asks for it. Operation, state and width are numbers of any size.
-#[derive(Drop)]
+#[derive(Clone, Copy)]
 pub struct Access {
     pub op: u64,
     pub state: u64,
@@ -121,7 +122,7 @@ pub struct Access {
     pub datum: u16,
 }
 
-#[derive(Drop)]
+#[derive(Clone, Copy)]
 pub enum Call {
     Access(Access),
     Interrupt,
@@ -134,7 +135,7 @@ pub enum Call {
 pub const VECTORS: [usize; 7] = [0o4, 0o10, 0o14, 0o20, 0o24, 0o30, 0o34];
 
 // Where a searched list has what is looked for.
-#[derive(Drop)]
+#[derive(Clone, Copy)]
 pub enum Found {
     At(usize),
     Missing,
@@ -152,7 +153,7 @@ pub const REGISTERS: [usize; 35] = [
 ];
 
 // A register that the core or the map registers answer for: KTCS and those at 777600 to 777616 octal.
-#[derive(Drop)]
+#[derive(Clone, Copy)]
 pub enum Operating {
     Ktcs,
     // One of KTIC, KTSP, KTPC, KTPS, KTAD and KTDT, counted from KTIC.
@@ -162,7 +163,7 @@ pub enum Operating {
 }
 
 // A register that the cells answer for.
-#[derive(Drop)]
+#[derive(Clone, Copy)]
 pub enum Associative {
     Ktmr,
     // A scratchpad word, counted from 777620 octal.
@@ -170,21 +171,21 @@ pub enum Associative {
 }
 
 // A register that can be read and stored into. KTWN is none: what goes there goes on through the window.
-#[derive(Drop)]
+#[derive(Clone, Copy)]
 pub enum Register {
     Operating(Operating),
     Associative(Associative),
 }
 
 // What can be read and stored into.
-#[derive(Drop)]
+#[derive(Clone, Copy)]
 pub enum Target {
     Memory,
     In(Register),
 }
 
 // What step 10 finds at a physical address.
-#[derive(Drop)]
+#[derive(Clone, Copy)]
 pub enum Place {
     There(Target),
     // 777572 and 777573 octal, from which a paged access goes on.
@@ -194,7 +195,7 @@ pub enum Place {
 }
 
 // The part of a word that a store covers.
-#[derive(Drop)]
+#[derive(Clone, Copy)]
 pub enum Part {
     Whole,
     Low,
@@ -204,7 +205,7 @@ pub enum Part {
 // From address to entry ------------------------------------------------------------------------------------------------
 
 // Where the words stand that a walk read.
-#[derive(Drop)]
+#[derive(Clone, Copy)]
 pub enum Reads {
     // The map word.
     Direct(usize),
@@ -213,7 +214,7 @@ pub enum Reads {
 }
 
 // What a walk of the maps comes to.
-#[derive(Drop)]
+#[derive(Clone, Copy)]
 pub enum Walk {
     // The map word, and where the words stand that were read for it.
     Finished(u16, Reads),
@@ -222,7 +223,7 @@ pub enum Walk {
 }
 
 // What an access gets for its page.
-#[derive(Drop)]
+#[derive(Clone, Copy)]
 pub enum Entry {
     // The walk ran off memory.
     OffMap,
@@ -233,7 +234,7 @@ pub enum Entry {
 }
 
 // What a look-up gives: the entry, and the cells as it leaves them.
-#[derive(Drop)]
+#[derive(Clone, Copy)]
 pub struct Looked {
     pub entry: Entry,
     pub cells: Cells,
@@ -242,7 +243,7 @@ pub struct Looked {
 // Order in one access --------------------------------------------------------------------------------------------------
 
 // What a fetched word is sorted into.
-#[derive(Drop)]
+#[derive(Clone, Copy)]
 pub enum Kind {
     Jsr,
     Rts,
@@ -254,7 +255,7 @@ pub enum Kind {
 }
 
 // What step 2 says of an access.
-#[derive(Drop)]
+#[derive(Clone, Copy)]
 pub enum Due {
     // Nothing is due: the steps go on.
     Steps,
@@ -267,7 +268,7 @@ pub enum Due {
 }
 
 // The step from 5 to 11 at which an access is refused.
-#[derive(Drop)]
+#[derive(Clone, Copy)]
 pub enum Fault {
     // Step 5.
     OddAddress,
@@ -286,7 +287,7 @@ pub enum Fault {
 }
 
 // What steps 6 to 9 say of an entry: the physical page, or the step that refused.
-#[derive(Drop)]
+#[derive(Clone, Copy)]
 pub enum Ruling {
     Granted(u16),
     Refused(Fault),
@@ -294,7 +295,7 @@ pub enum Ruling {
 
 // What comes back ------------------------------------------------------------------------------------------------------
 
-#[derive(Drop)]
+#[derive(Clone, Copy)]
 pub enum Answer {
     // An access is done: the word read, else 0, and the physical address.
     Done(u16, usize),
@@ -311,14 +312,14 @@ pub enum Answer {
 }
 
 // The physical address that an answer gives, or none.
-#[derive(Drop)]
+#[derive(Clone, Copy)]
 pub enum Physical {
     At(usize),
     Nowhere,
 }
 
 // What comes back of an answer: its number, its data and its physical address.
-#[derive(Drop)]
+#[derive(Clone, Copy)]
 pub struct Returned {
     pub number: u16,
     pub datum: u16,
@@ -327,7 +328,7 @@ pub struct Returned {
 
 // What a call is to do once its steps have ruled. Nothing else changes memory or the map registers; the cells change by this and by
 // look-ups.
-#[derive(Drop)]
+#[derive(Clone, Copy)]
 pub enum Effect {
     Keep,
     // The cell of the page with this tag empties.
@@ -343,7 +344,7 @@ pub enum Effect {
 }
 
 // What the steps of a call decide: the answer, the unit's new core, and what is to be done.
-#[derive(Drop)]
+#[derive(Clone, Copy)]
 pub struct Outcome {
     pub answer: Answer,
     pub core: Core,
@@ -351,7 +352,7 @@ pub struct Outcome {
 }
 
 // What a call decided, and the cells as its look-ups left them.
-#[derive(Drop)]
+#[derive(Clone, Copy)]
 pub struct Ran {
     pub outcome: Outcome,
     pub cells: Cells,
@@ -359,7 +360,7 @@ pub struct Ran {
 
 // An access under way: what was asked, and the unit as its steps see it. Of the cells they see how many there are, which says where registers
 // stand.
-#[derive(Drop)]
+#[derive(Clone, Copy)]
 pub struct Job {
     pub q: Access,
     pub core: Core,
@@ -368,7 +369,7 @@ pub struct Job {
 }
 
 // The answer to a call, and the unit after it.
-#[derive(Drop)]
+#[derive(Clone, Copy)]
 pub struct Reply {
     pub answer: Answer,
     pub unit: Unit,

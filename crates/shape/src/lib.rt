@@ -1,4 +1,5 @@
 // Steps 1 and 2 of an access: whether it is well shaped, and what the wait says of it (01, "Order in one access").
+#![tactic(auto)]
 ghost use Rattle.std.specs.Prelude.{◌≡◌};
 ghost use Rattle.rules.specs.Choice.{pick};
 ghost use Rattle.rules.specs.Steps.{listed, word_dati, ill_fitting, well_shaped, service_dato, start_read, due_when, due_of};

@@ -1,10 +1,13 @@
 // How many cells a unit has: the number of each size, and the size that is made with a number (T-08).
+#![tactic(auto)]
+
 ghost use Rattle.std.specs.Prelude.{◌≤◌, ◌≡◌};
 ghost use Rattle.rules.specs.Unit.{count_of, size_of};
 
 use rules::{Making, Size};
 
 // How many cells a unit of this size has, and so how many of the scratchpad words in the table of registers.
+#[tactic(auto, unfolding(rules::specs::Unit::count_of))]
 pub fn count_of(size: Size) -> usize
     ensures { (result ≡ count_of size) × (result ≤ 24) }
 {
@@ -15,6 +18,7 @@ pub fn count_of(size: Size) -> usize
 }
 
 // "8 and 24 give a fresh unit .. Every other number gives 30 and no unit." The number is of any size.
+#[tactic(auto, unfolding(rules::specs::Unit::size_of, rules::specs::Choice::pick))]
 pub fn size_of(cells: u64) -> Making
     ensures { result ≡ size_of cells }
 {

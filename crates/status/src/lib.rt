@@ -1,4 +1,6 @@
 // KTCS: its packing into 16 bits, its error flags, and what a store into it does (01, "Registers").
+#![tactic(auto)]
+
 ghost use Rattle.std.specs.Prelude.{◌≡◌, ◌+◌, ◌%◌, ◌≤◌, ◌<◌};
 ghost use Rattle.rules.specs.Unit.{clear_ktcs};
 ghost use Rattle.rules.specs.Status.{bit_of, packed, unpacked, with_modes, with_states, with_flags, flags_clear, fcn_stored, ktcs_stored};
@@ -6,6 +8,7 @@ ghost use Rattle.rules.specs.Status.{bit_of, packed, unpacked, with_modes, with_
 use rules::{Ktcs, Part};
 
 // The value of one bit. The bound lets sums of bits fit.
+#[tactic(auto, unfolding(rules::specs::Status::bit_of, rules::specs::Choice::pick))]
 pub fn bit(b: bool, v: u16) -> u16
     ensures { (result ≡ bit_of b v) × (result ≤ v) }
 {
@@ -20,6 +23,7 @@ fn low_bits(s: Ktcs) -> u16
 }
 
 // "KTCS (H): FCN bits 1-0, SS 2, DS 3, UM 4, IU 5, RV 11, PV 12, WV 13, AV 14, IV 15; others read 0."
+#[tactic(auto, unfolding(rules::specs::Status::packed))]
 pub fn packed(s: Ktcs) -> u16
     ensures { result ≡ packed s }
 {
@@ -31,6 +35,7 @@ pub fn packed(s: Ktcs) -> u16
         + bit(s.iv, 0o100000)
 }
 
+#[tactic(auto, unfolding(rules::specs::Status::unpacked, rules::specs::Status::bit_in))]
 pub fn unpacked(w: u16) -> Ktcs
     ensures { result ≡ unpacked w }
 {
@@ -49,6 +54,7 @@ pub fn unpacked(w: u16) -> Ktcs
 }
 
 // "if bits 15-11 are clear"
+#[tactic(auto, unfolding(rules::specs::Status::flags_clear))]
 pub fn flags_clear(s: Ktcs) -> bool
     ensures { result ≡ flags_clear s }
 {
@@ -56,6 +62,7 @@ pub fn flags_clear(s: Ktcs) -> bool
 }
 
 // FCN, UM and IU changed, and nothing else.
+#[tactic(auto, unfolding(rules::specs::Status::with_modes))]
 pub fn with_modes(s: Ktcs, fcn: u16, um: bool, iu: bool) -> Ktcs
     ensures { result ≡ with_modes s fcn um iu }
 {
@@ -67,6 +74,7 @@ pub fn with_modes(s: Ktcs, fcn: u16, um: bool, iu: bool) -> Ktcs
 }
 
 // SS and DS changed.
+#[tactic(auto, unfolding(rules::specs::Status::with_states))]
 pub fn with_states(s: Ktcs, ss: bool, ds: bool) -> Ktcs
     ensures { result ≡ with_states s ss ds }
 {
@@ -77,6 +85,7 @@ pub fn with_states(s: Ktcs, ss: bool, ds: bool) -> Ktcs
 }
 
 // The five error flags changed.
+#[tactic(auto, unfolding(rules::specs::Status::with_flags))]
 pub fn with_flags(s: Ktcs, rv: bool, pv: bool, wv: bool, av: bool, iv: bool) -> Ktcs
     ensures { result ≡ with_flags s rv pv wv av iv }
 {
@@ -90,6 +99,7 @@ pub fn with_flags(s: Ktcs, rv: bool, pv: bool, wv: bool, av: bool, iv: bool) -> 
 }
 
 // "a store that covers bits 1-0 sets FCN"
+#[tactic(auto, unfolding(rules::specs::Status::fcn_stored))]
 fn fcn_stored(fcn: u16, p: Part, v: u16) -> u16
     ensures { result ≡ fcn_stored fcn p v }
 {
@@ -101,6 +111,7 @@ fn fcn_stored(fcn: u16, p: Part, v: u16) -> u16
 }
 
 // "Any store into it, byte or word, clears IU and bits 15-11"
+#[tactic(auto, unfolding(rules::specs::Status::ktcs_stored))]
 pub fn ktcs_stored(s: Ktcs, p: Part, v: u16) -> Ktcs
     ensures { result ≡ ktcs_stored s p v }
 {
@@ -110,6 +121,7 @@ pub fn ktcs_stored(s: Ktcs, p: Part, v: u16) -> Ktcs
 }
 
 // KTCS all zero, as INIT leaves it.
+#[tactic(auto, unfolding(rules::specs::Unit::clear_ktcs))]
 pub fn clear_ktcs() -> Ktcs
     ensures { result ≡ clear_ktcs }
 {

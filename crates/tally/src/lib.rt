@@ -1,4 +1,5 @@
 // What the bench program counts, calls and lines, and the row of each call.
+#![tactic(auto)]
 ghost use Rattle.std.specs.Prelude.{◌≡◌};
 ghost use Rattle.tally.specs.Tally.{Holds, next, printed_as, call_row, line_counted, call_counted};
 
@@ -6,7 +7,7 @@ use rowtext::Text;
 use rules::{Physical, Reply, Unit};
 
 // The unit, and how many calls and lines there were so far.
-#[derive(Drop)]
+#[derive(Clone, Copy)]
 pub struct Bench {
     pub unit: Unit,
     pub calls: u64,
@@ -14,7 +15,7 @@ pub struct Bench {
 }
 
 // What a line leaves, and what it prints.
-#[derive(Drop)]
+#[derive(Clone, Copy)]
 pub struct Told {
     pub bench: Bench,
     pub text: Text,

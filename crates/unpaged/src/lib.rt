@@ -1,4 +1,5 @@
 // The unpaged access: step 3, step 4, and step 10 at the address as it stands.
+#![tactic(auto)]
 ghost use Rattle.std.specs.Prelude.{◌≡◌};
 ghost use Rattle.rules.specs.Program.{run};
 ghost use Rattle.rules.specs.Order.{unpaged_reached, unpaged_target, unpaged_from};

@@ -103,7 +103,7 @@ module _ (m : Memory) (u : Unit) (q : Access) where
   windowed-goes s =
       picked IsOnward (odd_word q.width (window_addr (job u q))) _ _
       (λ e. ends-here s.steps.steps (λ i. true_is_not_false (sym e ∙ i.even)) refl)
-      (λ e. rw (inner_ruled-silent, append-nil) (two-pages (record { steps = s; even = e })))
+      (λ e. rw (inner_ruled-silent m u (job u q) _ _, append-nil) (two-pages (record { steps = s; even = e })))
 
   -- a target that is not the window goes on to no other page
   elsewhere : {page : ℕ} {pl : Place} → place_of u.cells.size (length m) (outer_at q page) ≡ pl → Granted m u q page → InnerAsked m u q → Place.Window ≡ pl

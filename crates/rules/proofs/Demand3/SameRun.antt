@@ -90,14 +90,14 @@ unfolding station_after history_of meets
 run_sound m u h [] s e = s
 run_sound m u h (c ∷ cs) s e =
     let (a, b) = both_true (allowed h (deed_of m u c)) _ e in
-    run_sound _ _ _ cs (call-sound m u h c s a) b
+    run_sound (call_of m u c).memory (call_of m u c).reply.unit (heard h (deed_of m u c)) cs (call-sound m u h c s a) b
 
 meets-prefix : (m : Memory) (u : Unit) (h : History) (cs ds : List Call) → meets m u h (cs ++ ds) ≡ true → meets m u h cs ≡ true
 unfolding meets
 meets-prefix m u h [] ds e = refl
 meets-prefix m u h (c ∷ cs) ds e =
     let (a, b) = both_true (allowed h (deed_of m u c)) _ e in
-    ap₂ (λ (x y : Bool). x && y) a (meets-prefix _ _ _ cs ds b)
+    ap₂ (λ (x y : Bool). x && y) a (meets-prefix (call_of m u c).memory (call_of m u c).reply.unit (heard h (deed_of m u c)) cs ds b)
 
 -- before the first call no page is in use, and all cells are empty
 fresh-sound : (s : Size) (m : Memory) → Sound m (fresh s).maps (fresh s).cells none_in_use

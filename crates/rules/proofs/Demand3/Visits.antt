@@ -13,7 +13,7 @@ use Rattle.rules.proofs.Demand3.Uses.{used-outdated}
 pub in_use_after-append : (h : History) (vs ws : List Visit) → in_use_after h (vs ++ ws) ≡ in_use_after (in_use_after h vs) ws
 unfolding in_use_after
 in_use_after-append h [] ws = refl
-in_use_after-append h (v ∷ vs) ws = in_use_after-append _ vs ws
+in_use_after-append h (v ∷ vs) ws = in_use_after-append (told h v.tag (used_by v.walk (h v.tag))) vs ws
 
 -- the premise of visits is that of each part
 pub none_outdated-left : (h : History) (vs ws : List Visit) → none_outdated h (vs ++ ws) ≡ true → none_outdated h vs ≡ true
@@ -39,7 +39,8 @@ entering_outdates_none h w tag t =
 in_use_after-outdates_none : (h : History) (vs : List Visit) (t : ℕ) → is_outdated (in_use_after h vs t) ≡ is_outdated (h t)
 unfolding in_use_after
 in_use_after-outdates_none h [] t = refl
-in_use_after-outdates_none h (v ∷ vs) t = in_use_after-outdates_none _ vs t ∙ entering_outdates_none h v.walk v.tag t
+in_use_after-outdates_none h (v ∷ vs) t =
+    in_use_after-outdates_none (told h v.tag (used_by v.walk (h v.tag))) vs t ∙ entering_outdates_none h v.walk v.tag t
 
 pub none_outdated-in_use_after : (h : History) (vs ws : List Visit) → none_outdated (in_use_after h vs) ws ≡ none_outdated h ws
 unfolding none_outdated

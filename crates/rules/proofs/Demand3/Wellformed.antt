@@ -226,7 +226,7 @@ fresh-fit s =
 pub station_fit : {n : ℕ} (m : Memory) (u : Unit) (cs : List Call) → UnitFit n u → UnitFit n (station_after m u cs).unit
 unfolding station_after
 station_fit m u [] h = h
-station_fit m u (c ∷ cs) h = station_fit _ _ cs (call-fit m u c h)
+station_fit m u (c ∷ cs) h = station_fit (call_of m u c).memory (call_of m u c).reply.unit cs (call-fit m u c h)
 
 turns_fit : {n : ℕ} (ts : List Turn) (u : Unit) → UnitFit n u → UnitFit n (unit_after u ts)
 unfolding unit_after

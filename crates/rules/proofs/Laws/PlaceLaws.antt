@@ -31,6 +31,7 @@ past_words i a (suc n) x ys h =
 -- a word of the row is found at its place
 word_found : (i a n j : ℕ) → j < n → found_from i (words_from a n) (a + 2 * j) ≡ Found.At (i + j)
 unfolding found_from words_from pick
+word_found i a zero j h = elim h [ ]
 word_found i a (suc n) zero h = rw (eq-eqb (a + 2 * 0) a (omega arith)) (ap Found.At (omega arith))
 word_found i a (suc n) (suc j) h =
     rw (ne_eqb (a + 2 * suc j) a (omega arith))
@@ -40,6 +41,7 @@ word_found i a (suc n) (suc j) h =
 pub words_from-first : (a n room : ℕ) → n ≤ room → take n (words_from a room) ≡ words_from a n
 unfolding words_from
 words_from-first a zero room h = refl
+words_from-first a (suc n) zero h = elim h [ ]
 words_from-first a (suc n) (suc room) h = ap (λ (l : List ℕ). a ∷ l) (words_from-first (a + 2) n room (omega (arith, h)))
 
 -- the table of a unit with fewer cells is the beginning of that of one with more
