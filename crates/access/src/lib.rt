@@ -8,6 +8,7 @@ ghost use Rattle.rules.specs.Order.{after_wait, accessed};
 use rules::{Access, Answer, Cells, Core, Due, Job, Maps, Ran};
 
 // Nothing is due: the steps go on unpaged, or, after step 4, paged.
+#[tactic(auto, unfolding(rules::specs::Order::after_wait, rules::specs::Choice::pick))]
 fn stepped(m: &[u8], c: Core, r: Maps, q: Access, k: Cells) -> Ran
     ensures { result ≡ run m.now r (after_wait m.now k.size c r q Due.Steps) k }
 {
@@ -26,6 +27,7 @@ fn stepped(m: &[u8], c: Core, r: Maps, q: Access, k: Cells) -> Ran
 }
 
 // "2. The wait (2); a due sequence access ends here."
+#[tactic(auto, unfolding(rules::specs::Order::after_wait))]
 fn after_wait(m: &[u8], c: Core, r: Maps, q: Access, due: Due, k: Cells) -> Ran
     ensures { result ≡ run m.now r (after_wait m.now k.size c r q due) k }
 {
@@ -65,6 +67,7 @@ fn after_wait(m: &[u8], c: Core, r: Maps, q: Access, due: Due, k: Cells) -> Ran
 }
 
 // "1. Shape (answer 1).", and on. Memory is read alone: what is to be stored is in the outcome.
+#[tactic(auto, unfolding(rules::specs::Order::accessed, rules::specs::Choice::pick))]
 pub fn accessed(m: &[u8], c: Core, r: Maps, q: Access, k: Cells) -> Ran
     ensures { result ≡ run m.now r (accessed m.now k.size c r q) k }
 {

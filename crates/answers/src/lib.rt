@@ -1,11 +1,13 @@
 // What the host sees of an answer: its number, its data and its physical address (01, "What comes back").
 #![tactic(auto)]
+
 ghost use Rattle.std.specs.Prelude.{◌≡◌};
 ghost use Rattle.rules.specs.Answers.{shown_as, fault_shown, shown};
 
 use rules::{Answer, Fault, Physical, Returned};
 
 // An answer with no data and no physical address.
+#[tactic(auto, unfolding(rules::specs::Answers::shown_as))]
 fn bare(number: u16) -> Returned
     ensures { result ≡ shown_as number 0 Physical.Nowhere }
 {
@@ -17,6 +19,7 @@ fn bare(number: u16) -> Returned
 }
 
 // "4-8 | AV, RV, WV, PV, IV", "9 | time-out"; "10 takes 9's place at step 6" (T-01)
+#[tactic(auto, unfolding(rules::specs::Answers::fault_shown, rules::specs::Answers::shown_as))]
 pub fn fault_shown(f: Fault) -> Returned
     ensures { result ≡ fault_shown f }
 {
@@ -36,6 +39,7 @@ pub fn fault_shown(f: Fault) -> Returned
 }
 
 // "Answers 0 and 8 of an access give the physical address ..; sequence accesses, the other calls and the other answers give none."
+#[tactic(auto, unfolding(rules::specs::Answers::shown, rules::specs::Answers::shown_as))]
 pub fn shown(a: Answer) -> Returned
     ensures { result ≡ shown a }
 {

@@ -35,6 +35,7 @@ fn same(a: &[u8], b: &[u8]) -> bool
 }
 
 // "it is the proved `size_of` that refuses" (T-08)
+#[tactic(auto, unfolding(crate::specs::Asked::by_count))]
 fn by_count(count: Figures) -> Asked
     ensures { result ≡ by_count count }
 {
@@ -45,6 +46,7 @@ fn by_count(count: Figures) -> Asked
 }
 
 // By how many words the program was started with, its own name among them, and the two after its name.
+#[tactic(auto, unfolding(crate::specs::Asked::asked_for, rules::specs::Choice::pick, crate::specs::Text::option_text, crate::specs::Text::bytes_of))]
 pub fn asked_for(words: usize, option: &[u8], count: &[u8]) -> Asked
     ensures { result ≡ asked_for words option.now count.now }
 {
@@ -61,6 +63,7 @@ pub fn asked_for(words: usize, option: &[u8], count: &[u8]) -> Asked
 }
 
 // What is said of a number that no unit is made with.
+#[tactic(auto, unfolding(crate::specs::Told::refusal_text, crate::specs::Text::bytes_of, rowtext::specs::Digits::decimal, rowtext::specs::Digits::decimals, rules::specs::Choice::pick, rules::specs::Unit::count_of, rules::specs::Answers::making_shown, rules::specs::Answers::shown_as))]
 pub fn refusal() -> [u8; 45]
     ensures { result ≡ refusal_text }
 {
@@ -68,6 +71,7 @@ pub fn refusal() -> [u8; 45]
 }
 
 // What is said of arguments that the program does not know.
+#[tactic(auto, unfolding(crate::specs::Told::usage_text, crate::specs::Text::option_text, crate::specs::Text::bytes_of))]
 pub fn usage() -> [u8; 32]
     ensures { result ≡ usage_text }
 {

@@ -8,6 +8,7 @@ use linetext::Line;
 use tally::{Bench, Told};
 
 // What one line does to the unit and to memory, and what it prints.
+#[tactic(auto, unfolding(crate::specs::Bench::line_done, crate::specs::Bench::call_done))]
 pub fn line(b: Bench, m: &mut [u8], asks: Line) -> Told
     ensures bench { result.bench ≡ (line_done m.old b asks).bench }
     ensures memory { m.new ≡ (line_done m.old b asks).memory }

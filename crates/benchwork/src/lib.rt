@@ -24,6 +24,7 @@ pub struct Said {
 }
 
 // The bench before its first byte, with a fresh unit of either size.
+#[tactic(auto, unfolding(crate::specs::Bytes::fresh_progress, crate::specs::Whole::fresh_bench))]
 pub fn start(size: Size) -> Progress
     ensures { result ≡ fresh_progress size }
 {
@@ -39,6 +40,7 @@ pub fn start(size: Size) -> Progress
 }
 
 // One byte of the input. A newline ends a line, and the line is done.
+#[tactic(auto, unfolding(crate::specs::Bytes::stepped, crate::specs::Bytes::line_ended, rules::specs::Choice::pick, crate::specs::Bytes::byte_added))]
 pub fn step(s: Progress, m: &mut [u8], byte: u8) -> Said
     ensures progress { result.progress ≡ (stepped m.old s byte).progress }
     ensures memory { m.new ≡ (stepped m.old s byte).memory }
@@ -67,6 +69,7 @@ pub fn step(s: Progress, m: &mut [u8], byte: u8) -> Said
 }
 
 // The end of the input: "a last line without a newline is a line", if it has a byte.
+#[tactic(auto, unfolding(crate::specs::Bytes::ended, rules::specs::Choice::pick))]
 pub fn end(s: Progress, m: &mut [u8]) -> Text
     ensures { Holds result (ended m.old s) }
 {

@@ -19,6 +19,7 @@ const FIRST: u16 = 0o10;
 // "simultaneous comparison of the 8 8-bit words it contains against the seek data" (source 4.1.2.1).
 // From the last cell to the first, each match replaces the one gathered before it, so that the lowest place stays: a host's words may hold a
 // tag twice, and the first is promised.
+#[tactic(auto, unfolding(rules::specs::Unit::empty_cell))]
 pub fn cell_of(list: [Cell; ROOM], size: Size, tag: u16) -> Found
     ensures { result ≡ found_from 0 (map tag_in (take (count_of size) list)) tag }
 {
@@ -37,6 +38,7 @@ pub fn cell_of(list: [Cell; ROOM], size: Size, tag: u16) -> Found
 }
 
 // A cell by its place; past the last one that a unit of this size has, an empty cell.
+#[tactic(auto, unfolding(rules::specs::Unit::empty_cell))]
 pub fn cell_at(list: [Cell; ROOM], size: Size, i: usize) -> Cell
     ensures { result ≡ get_or (take (count_of size) list) i empty_cell }
 {
@@ -69,6 +71,7 @@ fn cell_named(counter: u16) -> usize
 }
 
 // "then the counter steps 10o to 17o and round", or to 37o with 24 cells: the last is 7 more than there are cells.
+#[tactic(auto, unfolding(rules::specs::Maps::stepped, rules::specs::Choice::pick))]
 fn next_counter(size: Size, counter: u16) -> u16
     ensures { result ≡ stepped (count_of size) counter }
 {
@@ -80,6 +83,7 @@ fn next_counter(size: Size, counter: u16) -> u16
 }
 
 // "A finished walk fills the cell the counter names, then the counter steps"
+#[tactic(auto, unfolding(rules::specs::Maps::filled))]
 pub fn filled(k: Cells, tag: u16, word: u16) -> Cells
     ensures { result ≡ filled k tag word }
 {
@@ -95,6 +99,7 @@ pub fn filled(k: Cells, tag: u16, word: u16) -> Cells
 }
 
 // Every cell that holds the page is emptied, so that nothing rests on its being in one cell only.
+#[tactic(auto, unfolding(rules::specs::Unit::empty_cell))]
 fn list_forgotten(mut list: [Cell; ROOM], tag: u16) -> [Cell; ROOM]
     ensures { result ≡ map (cell_forgotten tag) list }
 {
@@ -108,12 +113,14 @@ fn list_forgotten(mut list: [Cell; ROOM], tag: u16) -> [Cell; ROOM]
 }
 
 // "0 means empty", and exec page 0 has "no cell".
+#[tactic(auto, unfolding(rules::specs::Maps::holds))]
 fn holds(held: Cell, tag: u16) -> bool
     ensures { result ≡ holds tag held }
 {
     (held.tag == tag) & !(held.tag == 0)
 }
 
+#[tactic(auto, unfolding(rules::specs::Maps::cell_forgotten, rules::specs::Choice::pick, rules::specs::Unit::empty_cell))]
 fn cell_forgotten(held: Cell, tag: u16) -> Cell
     ensures { result ≡ cell_forgotten tag held }
 {
@@ -121,6 +128,7 @@ fn cell_forgotten(held: Cell, tag: u16) -> Cell
 }
 
 // "the cell of the page at fault .. empties"; the counter stays.
+#[tactic(auto, unfolding(rules::specs::Maps::forgotten))]
 pub fn forgotten(k: Cells, tag: u16) -> Cells
     ensures { result ≡ forgotten k tag }
 {
@@ -135,6 +143,7 @@ pub fn forgotten(k: Cells, tag: u16) -> Cells
 }
 
 // As many empty cells as the list has; it comes along for its length, which is known of an array and not of a field.
+#[tactic(auto, unfolding(rules::specs::Unit::empty_cell))]
 fn list_emptied(list: [Cell; ROOM]) -> [Cell; ROOM]
     ensures { result ≡ replicate (length list) empty_cell }
 {
@@ -142,6 +151,7 @@ fn list_emptied(list: [Cell; ROOM]) -> [Cell; ROOM]
 }
 
 // "empties all cells and sets the counter to 10o"; how many there are stays.
+#[tactic(auto, unfolding(rules::specs::Unit::emptied))]
 pub fn emptied(k: Cells) -> Cells
     ensures { result ≡ emptied k }
 {
@@ -155,6 +165,7 @@ pub fn emptied(k: Cells) -> Cells
     }
 }
 
+#[tactic(auto, unfolding(rules::specs::Registers::cell_stored, rules::specs::Choice::pick))]
 fn cell_stored(held: Cell, p: Part, v: u16) -> Cell
     ensures { result ≡ cell_stored held p v }
 {
@@ -169,6 +180,7 @@ fn cell_stored(held: Cell, p: Part, v: u16) -> Cell
 }
 
 // "A store into a scratchpad word leaves the tag, and does nothing in an empty cell (H)."
+#[tactic(auto, unfolding(rules::specs::Registers::pad_stored, rules::specs::Unit::there))]
 pub fn pad_stored(k: Cells, i: usize, p: Part, v: u16) -> Cells
     ensures { result ≡ pad_stored k i p v }
 {
@@ -184,6 +196,7 @@ pub fn pad_stored(k: Cells, i: usize, p: Part, v: u16) -> Cells
 }
 
 // "KTMR reads the counter times 256"; a scratchpad word reads what its cell holds.
+#[tactic(auto, unfolding(rules::specs::Registers::peeked, rules::specs::Unit::there))]
 pub fn peeked(k: Cells, g: Associative) -> u16
     ensures { result ≡ peeked k g }
 {

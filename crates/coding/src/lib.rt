@@ -31,6 +31,7 @@ const LAST: u16 = 0x4231;
 const FIRST_CELL: usize = 0o10;
 
 // The two ends, and every field that has fewer values than a word: this runs at every access, so it tests them all at once.
+#[tactic(auto, unfolding(crate::specs::Coding::is_unit))]
 pub fn is_unit(w: [u16; WORDS]) -> bool
     ensures { result ≡ is_unit w }
 {
@@ -49,6 +50,7 @@ pub fn is_unit(w: [u16; WORDS]) -> bool
         & (counter < past_cells)
 }
 
+#[tactic(auto, unfolding(crate::specs::Coding::wait_of, rules::specs::Choice::pick))]
 pub fn wait_of(n: u16) -> Wait
     ensures { result ≡ wait_of n }
 {
@@ -64,6 +66,7 @@ pub fn wait_of(n: u16) -> Wait
     Wait::SecondReadDue
 }
 
+#[tactic(auto, unfolding(crate::specs::Coding::wait_number))]
 pub fn wait_number(w: Wait) -> u16
     ensures { result ≡ wait_number w }
 {
@@ -75,12 +78,14 @@ pub fn wait_number(w: Wait) -> u16
     }
 }
 
+#[tactic(auto, unfolding(crate::specs::Coding::flag_number))]
 pub fn flag_number(b: bool) -> u16
     ensures { result ≡ flag_number b }
 {
     if b { 1 } else { 0 }
 }
 
+#[tactic(auto, unfolding(crate::specs::Coding::size_in, rules::specs::Choice::pick))]
 fn size_in(n: u16) -> Size
     ensures { result ≡ size_in n }
 {
@@ -91,6 +96,7 @@ fn size_in(n: u16) -> Size
     }
 }
 
+#[tactic(auto, unfolding(crate::specs::Coding::core_of))]
 pub fn core_of(w: [u16; WORDS]) -> Core
     ensures { result ≡ core_of w }
 {
@@ -111,6 +117,7 @@ pub fn core_of(w: [u16; WORDS]) -> Core
 }
 
 // There is always the same room, so the compiler makes plain moves of this loop, as of the one that stores the cells.
+#[tactic(auto, unfolding(crate::specs::Coding::list_of))]
 fn list_of(w: [u16; WORDS]) -> [Cell; ROOM]
     ensures { result ≡ list_of w }
 {
@@ -126,6 +133,7 @@ fn list_of(w: [u16; WORDS]) -> [Cell; ROOM]
     list
 }
 
+#[tactic(auto, unfolding(crate::specs::Coding::cells_of))]
 pub fn cells_of(w: [u16; WORDS]) -> Cells
     ensures { result ≡ cells_of w }
 {
@@ -138,6 +146,7 @@ pub fn cells_of(w: [u16; WORDS]) -> Cells
     }
 }
 
+#[tactic(auto, unfolding(crate::specs::Coding::maps_of))]
 pub fn maps_of(w: [u16; WORDS]) -> Maps
     ensures { result ≡ maps_of w }
 {
@@ -147,6 +156,7 @@ pub fn maps_of(w: [u16; WORDS]) -> Maps
     }
 }
 
+#[tactic(auto, unfolding(crate::specs::Coding::decoded))]
 pub fn decoded(w: [u16; WORDS]) -> Unit
     ensures { result ≡ decoded w }
 {
@@ -158,6 +168,7 @@ pub fn decoded(w: [u16; WORDS]) -> Unit
 }
 
 // An end, the core and the map registers, in the words before the cells; the others stay. The words' number is their type's, and said for callers.
+#[tactic(auto, unfolding(crate::specs::Coding::core_words))]
 pub fn with_core(w: [u16; WORDS], c: Core, r: Maps) -> [u16; WORDS]
     ensures { (result ≡ core_words c r ++ drop core_count w) × (length w ≡ unit_words) }
 {
@@ -184,6 +195,7 @@ pub fn with_core(w: [u16; WORDS], c: Core, r: Maps) -> [u16; WORDS]
 }
 
 // The tags and the words of all cells for which there is room, each in its place; the others stay.
+#[tactic(auto, unfolding(rules::specs::Unit::empty_cell))]
 fn with_list(w: [u16; WORDS], list: [Cell; ROOM]) -> [u16; WORDS]
     ensures { result ≡ take tags_place w ++ map tag_in list ++ map word_in list ++ drop last_place w }
 {
@@ -200,6 +212,7 @@ fn with_list(w: [u16; WORDS], list: [Cell; ROOM]) -> [u16; WORDS]
 
 // The cells, their number, the counter and the other end, in the words from the cells on; the others stay. The list comes by itself for its
 // length, which is known of an array and not of a field.
+#[tactic(auto, unfolding(crate::specs::Coding::cells_words))]
 fn with_cells(w: [u16; WORDS], size: Size, list: [Cell; ROOM], counter: u16) -> [u16; WORDS]
     ensures { result ≡ take core_count w ++ cells_words (record { size = size; list = list; counter = counter }) }
 {
@@ -210,6 +223,7 @@ fn with_cells(w: [u16; WORDS], size: Size, list: [Cell; ROOM], counter: u16) -> 
     with_list(o, list)
 }
 
+#[tactic(auto, unfolding(crate::specs::Coding::coded, crate::specs::Coding::core_words))]
 pub fn coded(u: Unit) -> [u16; WORDS]
     ensures { result ≡ coded u }
 {

@@ -7,6 +7,7 @@ ghost use Rattle.rules.specs.Order.{refused, faulted, outer_fault, window_addr, 
 use rules::{Answer, Core, Effect, Entry, Fault, Fetch, Job, Outcome, Target};
 
 // Answers 1, 2 and 3, which change nothing.
+#[tactic(auto, unfolding(rules::specs::Order::refused, rules::specs::Order::outcome))]
 pub fn refused(c: Core, a: Answer) -> Outcome
     ensures { done result ≡ refused c a }
 {
@@ -18,6 +19,7 @@ pub fn refused(c: Core, a: Answer) -> Outcome
 }
 
 // A sequence access: answer 0 with the word that it gives. "Memory and cells stay."
+#[tactic(auto, unfolding(rules::specs::Order::sequenced, rules::specs::Order::outcome))]
 pub fn sequenced(w: u16, c: Core) -> Outcome
     ensures { done result ≡ sequenced w c }
 {
@@ -29,6 +31,7 @@ pub fn sequenced(w: u16, c: Core) -> Outcome
 }
 
 // Answers 4 to 8, 10 and a paged 9: "the cell of the page at fault (a window's inner one once reached) empties".
+#[tactic(auto, unfolding(rules::specs::Order::faulted, rules::specs::Order::outcome))]
 fn faulted(j: Job, inner: bool, tag: u16, f: Fault) -> Outcome
     ensures { done result ≡ faulted j inner tag f }
 {
@@ -42,6 +45,7 @@ fn faulted(j: Job, inner: bool, tag: u16, f: Fault) -> Outcome
 }
 
 // The page of the access's own address is at fault.
+#[tactic(auto, unfolding(rules::specs::Order::outer_fault))]
 pub fn outer_fault(j: Job, f: Fault) -> Outcome
     ensures { done result ≡ outer_fault j f }
 {
@@ -50,6 +54,7 @@ pub fn outer_fault(j: Job, f: Fault) -> Outcome
 }
 
 // The address that the window goes on to: KTAD.
+#[tactic(auto, unfolding(rules::specs::Order::window_addr))]
 pub fn window_addr(j: Job) -> u16
     ensures { result ≡ window_addr j }
 {
@@ -58,6 +63,7 @@ pub fn window_addr(j: Job) -> u16
 }
 
 // The window's inner page is at fault, and KTAD stays.
+#[tactic(auto, unfolding(rules::specs::Order::inner_fault))]
 pub fn inner_fault(j: Job, f: Fault) -> Outcome
     ensures { done result ≡ inner_fault j f }
 {
@@ -66,6 +72,7 @@ pub fn inner_fault(j: Job, f: Fault) -> Outcome
 }
 
 // A fetch with answer 0, which leaves this flag.
+#[tactic(auto, unfolding(rules::specs::Order::fetched, rules::specs::Order::outcome, rules::specs::Unit::with_fetch))]
 pub fn fetched(j: Job, at: usize, flag: bool, w: u16) -> Outcome
     ensures { done result ≡ fetched j at flag w }
 {
@@ -80,6 +87,7 @@ pub fn fetched(j: Job, at: usize, flag: bool, w: u16) -> Outcome
 }
 
 // The flag after a paged fetch: the page's public bit, but a fetch from a KT register never moves it.
+#[tactic(auto, unfolding(rules::specs::Order::flag_after))]
 fn flag_after(t: Target, f: Fetch, e: Entry) -> bool
     ensures { result ≡ flag_after t f e }
 {
@@ -90,6 +98,7 @@ fn flag_after(t: Target, f: Fetch, e: Entry) -> bool
 }
 
 // "11. For a fetch, the word (8)."
+#[tactic(auto, unfolding(rules::specs::Order::word_judged, rules::specs::Choice::pick))]
 pub fn word_judged(j: Job, at: usize, t: Target, e: Entry, w: u16) -> Outcome
     ensures { done result ≡ word_judged j at t e w }
 {
@@ -102,6 +111,7 @@ pub fn word_judged(j: Job, at: usize, t: Target, e: Entry, w: u16) -> Outcome
 }
 
 // "unpaged: step 4, KTAD, KTDT"
+#[tactic(auto, unfolding(rules::specs::Order::unpaged_time_out, rules::specs::Order::outcome))]
 pub fn unpaged_time_out(j: Job) -> Outcome
     ensures { done result ≡ unpaged_time_out j }
 {

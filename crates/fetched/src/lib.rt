@@ -8,6 +8,7 @@ ghost use Rattle.rules.specs.Fetched.{is_fetch, is_dato, one_more, counted, norm
 use rules::{Access, Core, Fetch, Kind, Ktcs};
 
 // "States: 0 FETCH"
+#[tactic(auto, unfolding(rules::specs::Fetched::is_fetch))]
 pub fn is_fetch(q: Access) -> bool
     ensures { result ≡ is_fetch q }
 {
@@ -15,6 +16,7 @@ pub fn is_fetch(q: Access) -> bool
 }
 
 // "Only DATO counts as DATO": operation 2.
+#[tactic(auto, unfolding(rules::specs::Fetched::is_dato))]
 fn is_dato(q: Access) -> bool
     ensures { result ≡ is_dato q }
 {
@@ -22,6 +24,7 @@ fn is_dato(q: Access) -> bool
 }
 
 // "each stops at 2"
+#[tactic(auto, unfolding(rules::specs::Fetched::one_more, rules::specs::Choice::pick))]
 pub fn one_more(n: u16) -> u16
     ensures { result ≡ one_more n }
 {
@@ -29,6 +32,7 @@ pub fn one_more(n: u16) -> u16
 }
 
 // One more where this access is of the kind that is counted.
+#[tactic(auto, unfolding(rules::specs::Choice::pick))]
 pub fn one_more_if(counts: bool, n: u16) -> u16
     ensures { result ≡ pick counts (one_more n) n }
 {
@@ -36,6 +40,7 @@ pub fn one_more_if(counts: bool, n: u16) -> u16
 }
 
 // "counts of DATOs and of all non-fetch accesses since (this one included, each stops at 2)"
+#[tactic(auto, unfolding(rules::specs::Fetched::counted, rules::specs::Choice::pick))]
 pub fn counted(q: Access, f: Fetch) -> Fetch
     ensures { result ≡ counted q f }
 {
@@ -54,6 +59,7 @@ pub fn counted(q: Access, f: Fetch) -> Fetch
 }
 
 // ""Normal paging" is FCN 2, and FCN 3 for a fetch."
+#[tactic(auto, unfolding(rules::specs::Fetched::normal))]
 pub fn normal(s: Ktcs, q: Access) -> bool
     ensures { result ≡ normal s q }
 {
@@ -61,6 +67,7 @@ pub fn normal(s: Ktcs, q: Access) -> bool
 }
 
 // "The FCN 1 clauses hold whether or not that access is paged."
+#[tactic(auto, unfolding(rules::specs::Fetched::destination_only))]
 pub fn destination_only(s: Ktcs) -> bool
     ensures { result ≡ destination_only s }
 {
@@ -68,6 +75,7 @@ pub fn destination_only(s: Ktcs) -> bool
 }
 
 // SS by what is being executed: n in normal paging, d in destination-only paging, at a DATO.
+#[tactic(auto, unfolding(rules::specs::Fetched::source_by))]
 fn source_by(k: Kind, n: bool, d: bool, dato: bool) -> bool
     ensures { result ≡ source_by k n d dato }
 {
@@ -83,6 +91,7 @@ fn source_by(k: Kind, n: bool, d: bool, dato: bool) -> bool
 }
 
 // DS by what is being executed: n and d as above, at the second DATO, at the second access.
+#[tactic(auto, unfolding(rules::specs::Fetched::destination_by))]
 fn destination_by(k: Kind, n: bool, d: bool, dato2: bool, access2: bool) -> bool
     ensures { result ≡ destination_by k n d dato2 access2 }
 {
@@ -98,6 +107,7 @@ fn destination_by(k: Kind, n: bool, d: bool, dato2: bool, access2: bool) -> bool
 }
 
 // "Any bus operation while in the SOURCE state during normal paging", or what is being executed.
+#[tactic(auto, unfolding(rules::specs::Fetched::source_set))]
 pub fn source_set(s: Ktcs, f: Fetch, q: Access) -> bool
     ensures { result ≡ source_set s f q }
 {
@@ -108,6 +118,7 @@ pub fn source_set(s: Ktcs, f: Fetch, q: Access) -> bool
 
 // "Any bus operation while in the DESTINATION state during normal or destination-only paging", or what is being executed;
 // "the "second" is the one that takes its count from 1 to 2"
+#[tactic(auto, unfolding(rules::specs::Fetched::destination_set))]
 pub fn destination_set(s: Ktcs, f: Fetch, q: Access) -> bool
     ensures { result ≡ destination_set s f q }
 {
@@ -119,6 +130,7 @@ pub fn destination_set(s: Ktcs, f: Fetch, q: Access) -> bool
 }
 
 // SS and DS, where the flags are clear. "a fetch sets neither bit (H)", and in normal paging it clears both.
+#[tactic(auto, unfolding(rules::specs::Fetched::states_marked, rules::specs::Choice::pick))]
 pub fn states_marked(s: Ktcs, f: Fetch, q: Access) -> Ktcs
     ensures { result ≡ states_marked s f q }
 {
@@ -134,6 +146,7 @@ pub fn states_marked(s: Ktcs, f: Fetch, q: Access) -> Ktcs
 }
 
 // "KTIC from the address on a paged FETCH": a fetch is paged in FCN 2 and 3, which is normal paging.
+#[tactic(auto, unfolding(rules::specs::Fetched::instruction_noted, rules::specs::Unit::with_kept, rules::specs::Choice::pick))]
 pub fn instruction_noted(c: Core, q: Access) -> Core
     ensures { result ≡ instruction_noted c q }
 {
@@ -149,6 +162,7 @@ pub fn instruction_noted(c: Core, q: Access) -> Core
 }
 
 // "then, if bits 15-11 are clear: KTIC ..; SS and DS"; f is the fetch memory before this access was counted.
+#[tactic(auto, unfolding(rules::specs::Fetched::marked, rules::specs::Unit::with_ktcs, rules::specs::Choice::pick))]
 pub fn marked(c: Core, f: Fetch, q: Access) -> Core
     ensures { result ≡ marked c f q }
 {
@@ -163,6 +177,7 @@ pub fn marked(c: Core, f: Fetch, q: Access) -> Core
 }
 
 // Step 4, whole. It refuses nothing.
+#[tactic(auto, unfolding(rules::specs::Fetched::noted, rules::specs::Unit::with_fetch))]
 pub fn noted(c: Core, q: Access) -> Core
     ensures { result ≡ noted c q }
 {
@@ -174,6 +189,7 @@ pub fn noted(c: Core, q: Access) -> Core
 }
 
 // "A fetch with answer 0 updates it (counts go to 0, the flag to the page's public bit)"
+#[tactic(auto, unfolding(rules::specs::Fetched::after_fetch))]
 pub fn after_fetch(f: Fetch, w: u16, flag: bool) -> Fetch
     ensures { result ≡ after_fetch f w flag }
 {
@@ -187,6 +203,7 @@ pub fn after_fetch(f: Fetch, w: u16, flag: bool) -> Fetch
 }
 
 // "Fetch memory: .. cleared is all zero."
+#[tactic(auto, unfolding(rules::specs::Unit::clear_fetch))]
 pub fn clear_fetch() -> Fetch
     ensures { result ≡ clear_fetch }
 {

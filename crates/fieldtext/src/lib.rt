@@ -1,5 +1,6 @@
 // A line's fields, which are cut at each tab, and the numbers in them; and a count, which is read digit by digit like them.
 #![tactic(auto)]
+
 ghost use Rattle.std.specs.Prelude.{◌≡◌, ◌&&◌, ◌≤◌, length};
 ghost use Rattle.fieldtext.specs.Number.{is_digit, digits_of, number_of, decimal_of};
 ghost use Rattle.fieldtext.specs.Cut.{head_of, fields_at, none};
@@ -44,6 +45,7 @@ pub fn field_end(s: &[u8]) -> usize
 }
 
 // The digits of a base up to ten are the bytes from 48 on.
+#[tactic(auto, unfolding(crate::specs::Number::is_digit))]
 fn is_digit(b: u8, base: u64) -> bool
     requires { base ≤ 10 }
     ensures { result ≡ is_digit base b }
@@ -80,6 +82,7 @@ fn read_digits(bytes: &[u8], base: u64, most: usize) -> Figures
 }
 
 // "Numbers are 1-6 octal digits up to 177777."
+#[tactic(auto, unfolding(rules::specs::Choice::pick))]
 pub fn octal(field: &[u8]) -> Number
     ensures { result ≡ number_of field.now }
 {
@@ -97,6 +100,7 @@ pub fn octal(field: &[u8]) -> Number
 }
 
 // A count: "N is 1 to 9 decimal digits." (T-08)
+#[tactic(auto, unfolding(crate::specs::Number::decimal_of))]
 pub fn count(bytes: &[u8]) -> Figures
     ensures { result ≡ decimal_of bytes.now }
 {

@@ -16,6 +16,7 @@ pub struct Gather {
 const TOO_LONG: usize = 41;
 
 // No byte of a line yet.
+#[tactic(auto, unfolding(crate::specs::Gather::nothing_yet))]
 pub fn nothing() -> Gather
     ensures { result ≡ nothing_yet }
 {
@@ -26,6 +27,7 @@ pub fn nothing() -> Gather
 }
 
 // One more byte of the line, which is no newline. A byte that finds no room makes the line too long and is dropped.
+#[tactic(auto, unfolding(crate::specs::Gather::push_of, rules::specs::Choice::pick))]
 pub fn push(g: Gather, b: u8) -> Gather
     ensures { result ≡ push_of g b }
 {
@@ -41,6 +43,7 @@ pub fn push(g: Gather, b: u8) -> Gather
 }
 
 // What the gathered line asks for.
+#[tactic(auto, unfolding(crate::specs::Gather::line_in, rules::specs::Choice::pick))]
 pub fn line_in(g: Gather) -> Line
     ensures { result ≡ line_in g }
 {

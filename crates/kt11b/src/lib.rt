@@ -18,6 +18,7 @@ use rules::{Access, Making, Reply};
 
 // "A fresh unit is all zero, then INIT.", with 8 or 24 cells, whatever was in the words. Any other number is answered 30, and the words stay as
 // they were.
+#[tactic(auto, unfolding(crate::specs::Doors::words_made))]
 #[unsafe(no_mangle)]
 pub extern "C" fn kt11b_fresh(unit: &mut [u16; coding::WORDS], cells: u64) -> u64
     ensures words { unit.new ≡ words_made unit.old (size_of cells) }
@@ -58,6 +59,7 @@ fn by_steps(unit: &mut [u16; coding::WORDS], memory: &mut [u8], q: Access) -> u6
 }
 
 // An access as it comes: the usual one on the core alone, any other by all its steps.
+#[tactic(auto, unfolding(coding::specs::Coding::decoded))]
 fn by_sort(unit: &mut [u16; coding::WORDS], memory: &mut [u8], q: Access) -> u64
     ensures words { unit.new ≡ words_after memory.old unit.old (Call.Access q) }
     ensures memory { memory.new ≡ memory_after memory.old unit.old (Call.Access q) }

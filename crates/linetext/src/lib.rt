@@ -44,6 +44,7 @@ fn first_number(line: &[u8]) -> Reading
 }
 
 // "`W` address value (even, one memory word)"
+#[tactic(auto, unfolding(rules::specs::Choice::pick))]
 fn store(line: &[u8]) -> Line
     ensures { result ≡ store_of (fields_at line.now 2) }
 {
@@ -58,6 +59,7 @@ fn store(line: &[u8]) -> Line
 }
 
 // "`A` operation state width address data"
+#[tactic(auto, unfolding(rules::specs::Choice::pick))]
 fn access(line: &[u8]) -> Line
     ensures { result ≡ access_of (fields_at line.now 2) }
 {
@@ -80,6 +82,7 @@ fn access(line: &[u8]) -> Line
 }
 
 // "`T` vector"
+#[tactic(auto, unfolding(rules::specs::Choice::pick))]
 fn trap(line: &[u8]) -> Line
     ensures { result ≡ trap_of (fields_at line.now 2) }
 {
@@ -92,6 +95,7 @@ fn trap(line: &[u8]) -> Line
 }
 
 // "`I` (interrupt)", "`X` (INIT)": the letter is the whole line.
+#[tactic(auto, unfolding(crate::specs::Line::alone_of, rules::specs::Choice::pick))]
 fn alone(line: &[u8], asks: Line) -> Line
     ensures { result ≡ alone_of asks (fields_at line.now 2) }
 {
@@ -99,6 +103,7 @@ fn alone(line: &[u8], asks: Line) -> Line
 }
 
 // What the letter asks for, with the numbers after it.
+#[tactic(auto, unfolding(crate::specs::Line::by_letter, rules::specs::Choice::pick))]
 fn by_letter(line: &[u8], letter: u8) -> Line
     ensures { result ≡ by_letter letter (fields_at line.now 2) }
 {

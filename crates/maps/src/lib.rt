@@ -9,6 +9,7 @@ use rules::{Cells, Entry, Found, Looked, Maps, Reads, Walk};
 // The walk -------------------------------------------------------------------------------------------------------------
 
 // "A map word or pointer at or beyond L is a time-out.": "The walk itself should report that it ran off memory" (T-01).
+#[tactic(auto, unfolding(rules::specs::Maps::word_walk, rules::specs::Maps::unless_off, rules::specs::Choice::pick))]
 fn word_walk(m: &[u8], at: usize) -> Walk
     ensures { result ≡ word_walk m.now at }
 {
@@ -20,6 +21,7 @@ fn word_walk(m: &[u8], at: usize) -> Walk
 }
 
 // The map word that a pointer leads to, which "is never a pointer again".
+#[tactic(auto, unfolding(rules::specs::Maps::followed, rules::specs::Maps::unless_off, rules::specs::Choice::pick))]
 fn followed(m: &[u8], from: usize, to: usize) -> Walk
     ensures { result ≡ followed m.now from to }
 {
@@ -31,6 +33,7 @@ fn followed(m: &[u8], from: usize, to: usize) -> Walk
 }
 
 // "Other user pages: the word at that same place is a pointer"
+#[tactic(auto, unfolding(rules::specs::Maps::pointer_walk, rules::specs::Maps::unless_off, rules::specs::Choice::pick))]
 fn pointer_walk(m: &[u8], from: usize) -> Walk
     ensures { result ≡ pointer_walk m.now from }
 {
@@ -42,6 +45,7 @@ fn pointer_walk(m: &[u8], from: usize) -> Walk
 }
 
 // "Exec simple: word at 512·M(KTEM)+256+2p. Other exec pages: word at 512·M(KTUM)+2p."
+#[tactic(auto, unfolding(rules::specs::Maps::exec_walk, rules::specs::Choice::pick))]
 fn exec_walk(m: &[u8], maps: Maps, p: u8) -> Walk
     ensures { result ≡ exec_walk m.now maps p }
 {
@@ -53,6 +57,7 @@ fn exec_walk(m: &[u8], maps: Maps, p: u8) -> Walk
 }
 
 // "User simple: word at 512·M(KTUM)+256+2p. Other user pages: the word at that same place is a pointer"
+#[tactic(auto, unfolding(rules::specs::Maps::user_walk, rules::specs::Choice::pick))]
 fn user_walk(m: &[u8], maps: Maps, p: u8) -> Walk
     ensures { result ≡ user_walk m.now maps p }
 {
@@ -65,6 +70,7 @@ fn user_walk(m: &[u8], maps: Maps, p: u8) -> Walk
 }
 
 // The walk of a page that is not exec page 0.
+#[tactic(auto, unfolding(rules::specs::Maps::walk_of, rules::specs::Choice::pick))]
 pub fn walk_of(m: &[u8], maps: Maps, user: bool, p: u8) -> Walk
     ensures { result ≡ walk_of m.now maps user p }
 {
@@ -76,6 +82,7 @@ pub fn walk_of(m: &[u8], maps: Maps, user: bool, p: u8) -> Walk
 }
 
 // What a walk gives the access: where its map word stood no longer matters.
+#[tactic(auto, unfolding(rules::specs::Maps::entry_of))]
 pub fn entry_of(w: Walk) -> Entry
     ensures { result ≡ entry_of w }
 {
@@ -88,6 +95,7 @@ pub fn entry_of(w: Walk) -> Entry
 // The look-up ----------------------------------------------------------------------------------------------------------
 
 // "Exec page 0: physical page M of KTEM, no cell, every key passes."
+#[tactic(auto, unfolding(rules::specs::Maps::exec_zero_entry))]
 fn exec_zero_entry(maps: Maps) -> Entry
     ensures { result ≡ exec_zero_entry maps }
 {
@@ -95,6 +103,7 @@ fn exec_zero_entry(maps: Maps) -> Entry
 }
 
 // "A finished walk fills the cell the counter names .. A walk that times out fills nothing.", which is one that ran off memory.
+#[tactic(auto, unfolding(rules::specs::Maps::filled_by))]
 fn filled_by(k: Cells, tag: u16, w: Walk) -> Cells
     ensures { result ≡ filled_by k tag w }
 {
@@ -105,6 +114,7 @@ fn filled_by(k: Cells, tag: u16, w: Walk) -> Cells
 }
 
 // A page that no cell holds.
+#[tactic(auto, unfolding(rules::specs::Maps::missed))]
 fn missed(k: Cells, tag: u16, w: Walk) -> Looked
     ensures { result ≡ missed k tag w }
 {
@@ -115,6 +125,7 @@ fn missed(k: Cells, tag: u16, w: Walk) -> Looked
 }
 
 // A page that may have a cell. "A hit uses the cell."
+#[tactic(auto, unfolding(rules::specs::Maps::sought_in, rules::specs::Maps::cell_of, rules::specs::Unit::there))]
 fn sought(m: &[u8], maps: Maps, user: bool, p: u8, k: Cells) -> Looked
     ensures { result ≡ sought_in m.now maps user p k (cell_of k (tag_of user p)) }
 {
@@ -131,6 +142,7 @@ fn sought(m: &[u8], maps: Maps, user: bool, p: u8, k: Cells) -> Looked
 }
 
 // Step 6: how an access gets the entry of its page, and what that leaves in the cells.
+#[tactic(auto, unfolding(rules::specs::Maps::looked, rules::specs::Choice::pick))]
 pub fn looked(m: &[u8], maps: Maps, user: bool, p: u8, k: Cells) -> Looked
     ensures { result ≡ looked m.now maps user p k }
 {

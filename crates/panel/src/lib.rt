@@ -11,6 +11,7 @@ use rules::{Cell, Register, Unit};
 const NO_PAGE: usize = 0xffffffffffffffff;
 
 // A register as an access would read it.
+#[tactic(auto, unfolding(crate::specs::Panel::register_told))]
 fn register_told(u: Unit, g: Register) -> u64
     ensures { result ≡ register_told u g }
 {
@@ -21,6 +22,7 @@ fn register_told(u: Unit, g: Register) -> u64
 }
 
 // A register by its number in the table of addresses: KTMR 1, KTCS 2, and on to KTEM 10.
+#[tactic(auto, unfolding(crate::specs::Panel::register_read, rules::specs::Choice::pick))]
 pub fn register_read(w: [u16; coding::WORDS], number: usize) -> u64
     ensures { result ≡ register_read w number }
 {
@@ -43,6 +45,7 @@ fn cells_in(w: [u16; coding::WORDS]) -> usize
     sizes::count_of(size)
 }
 
+#[tactic(auto, unfolding(crate::specs::Panel::count_read, rules::specs::Choice::pick))]
 pub fn count_read(w: [u16; coding::WORDS]) -> u64
     ensures { result ≡ count_read w }
 {
@@ -53,6 +56,7 @@ pub fn count_read(w: [u16; coding::WORDS]) -> u64
 }
 
 // A number that is read of the cell at this place, if the unit has such a cell.
+#[tactic(auto, unfolding(crate::specs::Panel::cell_read, rules::specs::Choice::pick))]
 fn cell_read(w: [u16; coding::WORDS], index: usize, number: u16) -> u64
     ensures { result ≡ cell_read w index number }
 {
@@ -65,6 +69,7 @@ fn cell_read(w: [u16; coding::WORDS], index: usize, number: u16) -> u64
     replies::no_unit()
 }
 
+#[tactic(auto, unfolding(rules::specs::Unit::there))]
 fn cell_in(w: [u16; coding::WORDS], index: usize) -> Cell
     ensures { result ≡ cell_at (decoded w).cells index }
 {
@@ -87,6 +92,7 @@ pub fn word_read(w: [u16; coding::WORDS], index: usize) -> u64
     cell_read(w, index, cell_in(w, index).word)
 }
 
+#[tactic(auto, unfolding(crate::specs::Panel::counter_read, rules::specs::Choice::pick))]
 pub fn counter_read(w: [u16; coding::WORDS]) -> u64
     ensures { result ≡ counter_read w }
 {
@@ -98,6 +104,7 @@ pub fn counter_read(w: [u16; coding::WORDS]) -> u64
 }
 
 // 0 nothing, 1 and 2 the SERVICE DATOs, 3 the second START read.
+#[tactic(auto, unfolding(crate::specs::Panel::wait_read, rules::specs::Choice::pick))]
 pub fn wait_read(w: [u16; coding::WORDS]) -> u64
     ensures { result ≡ wait_read w }
 {
@@ -111,6 +118,7 @@ pub fn wait_read(w: [u16; coding::WORDS]) -> u64
 }
 
 // Where the page that a map register's word names begins, in a memory of this length: "as a part of the caller's memory, or an empty part".
+#[tactic(auto, unfolding(crate::specs::Panel::page_place, rules::specs::Choice::pick, rules::specs::Maps::low9))]
 pub fn page_place(length: usize, word: u16) -> usize
     ensures { result ≡ page_place length word }
 {

@@ -52,6 +52,7 @@ fn ended(core: Core, word: u16, at: usize, effect: Effect) -> Attempt
 
 // Whether the access is usual -----------------------------------------------------------------------------------------
 
+#[tactic(auto, unfolding(crate::specs::Usual::is_idle))]
 fn is_idle(w: Wait) -> bool
     ensures { result ≡ is_idle w }
 {
@@ -63,6 +64,7 @@ fn is_idle(w: Wait) -> bool
     }
 }
 
+#[tactic(auto, unfolding(crate::specs::Usual::is_plain))]
 fn is_plain(k: Kind) -> bool
     ensures { result ≡ is_plain k }
 {
@@ -77,6 +79,7 @@ fn is_plain(k: Kind) -> bool
     }
 }
 
+#[tactic(auto, unfolding(crate::specs::Usual::calm))]
 fn calm(c: Core) -> bool
     ensures { result ≡ calm c }
 {
@@ -87,6 +90,7 @@ fn calm(c: Core) -> bool
         & is_plain(kinds::kind_of(c.fetch.newer))
 }
 
+#[tactic(auto, unfolding(crate::specs::Usual::usual))]
 pub fn usual(len: usize, c: Core, q: Access) -> bool
     ensures { result ≡ usual len c q }
 {
@@ -95,6 +99,7 @@ pub fn usual(len: usize, c: Core, q: Access) -> bool
 
 // Step 4 --------------------------------------------------------------------------------------------------------------
 
+#[tactic(auto, unfolding(crate::specs::Usual::fetch_noted))]
 fn fetch_noted(c: Core, q: Access) -> Core
     ensures { result ≡ fetch_noted c q }
 {
@@ -107,6 +112,7 @@ fn fetch_noted(c: Core, q: Access) -> Core
     d
 }
 
+#[tactic(auto, unfolding(crate::specs::Usual::other_fetch, rules::specs::Fetched::is_dato))]
 fn other_fetch(f: Fetch, q: Access) -> Fetch
     ensures { result ≡ other_fetch f q }
 {
@@ -119,6 +125,7 @@ fn other_fetch(f: Fetch, q: Access) -> Fetch
     }
 }
 
+#[tactic(auto, unfolding(crate::specs::Usual::other_noted))]
 fn other_noted(c: Core, q: Access) -> Core
     ensures { result ≡ other_noted c q }
 {
@@ -138,6 +145,7 @@ fn other_noted(c: Core, q: Access) -> Core
 // The transfer --------------------------------------------------------------------------------------------------------
 
 // A fetch of a word that is not forbidden; c is the core after step 4, v the page's map word.
+#[tactic(auto, unfolding(rules::specs::Unit::with_fetch))]
 fn fetch_ended(m: &[u8], c: Core, q: Access, v: u16, at: usize) -> Attempt
     ensures { (k : Cells) → Sound result m.now (λ r. read_at m.now (record { q = q; core = c; maps = r; size = k.size }) at Target.Memory (word_judged (record { q = q; core = c; maps = r; size = k.size }) at Target.Memory (Entry.Mapped v))) k }
 {
@@ -178,6 +186,7 @@ fn reached(m: &[u8], c: Core, q: Access, v: u16, at: usize) -> Attempt
 }
 
 // Steps 7 to 9, by the word that the page's cell holds.
+#[tactic(auto, unfolding(rules::specs::Steps::judged))]
 fn held(m: &[u8], c: Core, q: Access, v: u16) -> Attempt
     ensures { calm c ≡ true → (k : Cells) → Sound result m.now (λ r. outer_ruled m.now (record { q = q; core = noted c q; maps = r; size = k.size }) (Entry.Mapped v) (judged q.op (watches (noted c q).fetch q) (Entry.Mapped v))) k }
 {
@@ -189,6 +198,7 @@ fn held(m: &[u8], c: Core, q: Access, v: u16) -> Attempt
 }
 
 // Step 6, by the cells alone.
+#[tactic(auto, unfolding(rules::specs::Maps::cell_of, rules::specs::Unit::there))]
 pub fn attempted(m: &[u8], c: Core, q: Access, k: Cells) -> Attempt
     ensures { usual (length m.now) c q ≡ true → Sound result m.now (λ r. accessed m.now k.size c r q) k }
 {

@@ -1,6 +1,7 @@
 // The register table: which address is which register, the parts of a word that a store covers, and what is read of the core and the map
 // registers (01, "Registers").
 #![tactic(auto)]
+
 ghost use Rattle.std.specs.Prelude.{◌≡◌, get_or, set, take};
 ghost use Rattle.rules.specs.Registers.{found_from, register_of, place_in, place_of, part_of, merged, operating_word};
 
@@ -48,6 +49,7 @@ fn found_before(list: &[usize], end: usize, x: usize) -> Found
 }
 
 // The register with this number, counted from KTMR in the order of their addresses.
+#[tactic(auto, unfolding(rules::specs::Registers::register_of, rules::specs::Choice::pick))]
 pub fn register_of(n: usize) -> Register
     ensures { result ≡ register_of n }
 {
@@ -70,6 +72,7 @@ pub fn register_of(n: usize) -> Register
 }
 
 // What stands at this place of the table: the window first, and the registers after it.
+#[tactic(auto, unfolding(rules::specs::Registers::place_in, rules::specs::Choice::pick))]
 fn place_in(n: usize) -> Place
     ensures { result ≡ place_in n }
 {
@@ -81,6 +84,7 @@ fn place_in(n: usize) -> Place
 }
 
 // What lies at a physical address for a unit of this size: "at or beyond L and not a register above" is nowhere.
+#[tactic(auto, unfolding(rules::specs::Registers::place_of, rules::specs::Choice::pick, rules::specs::Registers::registers, rules::specs::Registers::words_from, rules::specs::Registers::place_found))]
 pub fn place_of(size: Size, len: usize, at: usize) -> Place
     ensures { result ≡ place_of size len at }
 {
@@ -95,6 +99,7 @@ pub fn place_of(size: Size, len: usize, at: usize) -> Place
 }
 
 // "DATOB writes the low 8 bits of data", into the byte that its address names; every other store covers the word.
+#[tactic(auto, unfolding(rules::specs::Registers::part_of, rules::specs::Choice::pick))]
 pub fn part_of(op: u64, at: usize) -> Part
     ensures { result ≡ part_of op at }
 {
@@ -106,6 +111,7 @@ pub fn part_of(op: u64, at: usize) -> Part
 }
 
 // "Other registers take words and bytes."
+#[tactic(auto, unfolding(rules::specs::Registers::merged))]
 pub fn merged(p: Part, old: u16, v: u16) -> u16
     ensures { result ≡ merged p old v }
 {
@@ -137,6 +143,7 @@ pub fn kept_stored(kept: [u16; rules::KEPT], i: usize, v: u16) -> [u16; rules::K
 }
 
 // What a read of a register gives that the core or the map registers answer for.
+#[tactic(auto, unfolding(rules::specs::Registers::operating_word))]
 pub fn operating_word(c: Core, r: Maps, g: Operating) -> u16
     ensures { result ≡ operating_word c r g }
 {

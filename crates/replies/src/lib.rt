@@ -7,6 +7,7 @@ ghost use Rattle.replies.specs.Replies.{physical_bits, reply_word, told, no_unit
 use rules::{Answer, Making, Physical, Returned};
 
 // Bits 16 to 34. The bound lets the sum of the parts fit.
+#[tactic(auto, unfolding(crate::specs::Replies::physical_bits))]
 fn physical_bits(p: Physical) -> u64
     ensures { (result ≡ physical_bits p) × (result < 0x800000000) }
 {
@@ -16,6 +17,7 @@ fn physical_bits(p: Physical) -> u64
     }
 }
 
+#[tactic(auto, unfolding(crate::specs::Replies::reply_word))]
 pub fn reply_word(s: Returned) -> u64
     ensures { result ≡ reply_word s }
 {
@@ -24,6 +26,7 @@ pub fn reply_word(s: Returned) -> u64
 }
 
 // A reply with no physical address.
+#[tactic(auto, unfolding(crate::specs::Replies::told, rules::specs::Answers::shown_as))]
 pub fn told(number: u16, datum: u16) -> u64
     ensures { result ≡ told number datum }
 {
@@ -34,12 +37,14 @@ pub fn told(number: u16, datum: u16) -> u64
     })
 }
 
+#[tactic(auto, unfolding(crate::specs::Replies::no_unit))]
 pub fn no_unit() -> u64
     ensures { result ≡ no_unit }
 {
     told(70, 0)
 }
 
+#[tactic(auto, unfolding(crate::specs::Replies::misshapen))]
 pub fn misshapen() -> u64
     ensures { result ≡ misshapen }
 {
@@ -47,6 +52,7 @@ pub fn misshapen() -> u64
 }
 
 // What the making of a unit gives.
+#[tactic(auto, unfolding(crate::specs::Replies::told, rules::specs::Answers::making_shown))]
 pub fn making_replied(how: Making) -> u64
     ensures { result ≡ reply_word (making_shown how) }
 {
@@ -57,6 +63,7 @@ pub fn making_replied(how: Making) -> u64
 }
 
 // An answer of the rules.
+#[tactic(auto, unfolding(crate::specs::Replies::reply_word))]
 pub fn replied(a: Answer) -> u64
     ensures { result ≡ reply_word (shown a) }
 {

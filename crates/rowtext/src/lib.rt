@@ -1,5 +1,6 @@
 // The lines that the bench program prints. Each is put together from its end, since a number's last digit is found first.
 #![tactic(auto)]
+
 ghost use Rattle.std.specs.Prelude.{◌≡◌, [], ◌∷◌, ◌++◌, ◌≤◌, drop};
 ghost use Rattle.rowtext.specs.Digits.{octal6, decimal};
 ghost use Rattle.rowtext.specs.Row.{address_text, row_of, bad_of, header_of};
@@ -46,6 +47,7 @@ fn ahead(t: Text, b: u8) -> Text
 }
 
 // Six octal digits, and the byte that ends the field.
+#[tactic(auto, unfolding(crate::specs::Digits::octal6))]
 fn octal_ahead(t: Text, n: u32, end: u8) -> Text
     requires { Room t 7 }
     ensures { Ahead t result (octal6 n ++ end ∷ []) 7 }
@@ -76,6 +78,7 @@ fn decimal_ahead(t: Text, n: u64, end: u8) -> Text
 }
 
 // "physical (six digits each, or `-`)"
+#[tactic(auto, unfolding(crate::specs::Row::address_text))]
 fn place_ahead(t: Text, physical: Printed, end: u8) -> Text
     requires { Room t 7 }
     ensures { Ahead t result (address_text physical ++ end ∷ []) 7 }
@@ -87,6 +90,7 @@ fn place_ahead(t: Text, physical: Printed, end: u8) -> Text
 }
 
 // "Each call prints its decimal number, answer, data, physical (six digits each, or `-`) and KTCS."
+#[tactic(auto, unfolding(crate::specs::Row::row_of))]
 pub fn row(call: u64, answer: u16, datum: u16, physical: Printed, ktcs: u16) -> Text
     ensures { (drop result.from result.bytes ≡ row_of call answer datum physical ktcs) × (result.from ≤ 64) }
 {
@@ -98,6 +102,7 @@ pub fn row(call: u64, answer: u16, datum: u16, physical: Printed, ktcs: u16) -> 
 }
 
 // "A bad line prints `BAD`, tab, its decimal line number."
+#[tactic(auto, unfolding(crate::specs::Row::bad_of))]
 pub fn bad_line(number: u64) -> Text
     ensures { (drop result.from result.bytes ≡ bad_of number) × (result.from ≤ 64) }
 {
@@ -106,6 +111,7 @@ pub fn bad_line(number: u64) -> Text
 }
 
 // The names over the columns.
+#[tactic(auto, unfolding(crate::specs::Row::header_of))]
 pub fn header() -> [u8; 24]
     ensures { result ≡ header_of }
 {

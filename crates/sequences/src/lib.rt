@@ -9,6 +9,7 @@ use rules::{Core, Fetch, Found, Kind, Wait};
 // The two SERVICE stores -----------------------------------------------------------------------------------------------
 
 // "The first puts data in KTPS"
+#[tactic(auto, unfolding(rules::specs::Sequences::status_stored))]
 pub fn status_stored(c: Core, v: u16) -> Core
     ensures { result ≡ status_stored c v }
 {
@@ -25,6 +26,7 @@ pub fn status_stored(c: Core, v: u16) -> Core
 }
 
 // "the second puts address in KTSP and data in KTPC"
+#[tactic(auto, unfolding(rules::specs::Sequences::program_counter_stored))]
 pub fn program_counter_stored(c: Core, a: u16, v: u16) -> Core
     ensures { result ≡ program_counter_stored c a v }
 {
@@ -47,6 +49,7 @@ pub fn program_counter_stored(c: Core, a: u16, v: u16) -> Core
 // The two START reads --------------------------------------------------------------------------------------------------
 
 // After the first, the second is due.
+#[tactic(auto, unfolding(rules::specs::Sequences::first_read_done))]
 pub fn first_read_done(c: Core) -> Core
     ensures { result ≡ first_read_done c }
 {
@@ -62,6 +65,7 @@ pub fn first_read_done(c: Core) -> Core
 }
 
 // "the second sets UM, FCN 2 and clears fetch memory"
+#[tactic(auto, unfolding(rules::specs::Sequences::user_started))]
 pub fn user_started(c: Core) -> Core
     ensures { result ≡ user_started c }
 {
@@ -79,6 +83,7 @@ pub fn user_started(c: Core) -> Core
 // Interrupt, trap and INIT ---------------------------------------------------------------------------------------------
 
 // "Interrupt: IU takes UM; from user mode UM clears, fetch memory clears, and the same wait begins."
+#[tactic(auto, unfolding(rules::specs::Sequences::interrupted, rules::specs::Unit::with_ktcs, rules::specs::Choice::pick))]
 pub fn interrupted(c: Core) -> Core
     ensures { result ≡ interrupted c }
 {
@@ -93,6 +98,7 @@ pub fn interrupted(c: Core) -> Core
     }
 }
 
+#[tactic(auto, unfolding(rules::specs::Sequences::is_trap))]
 fn is_trap(k: Kind) -> bool
     ensures { result ≡ is_trap k }
 {
@@ -108,6 +114,7 @@ fn is_trap(k: Kind) -> bool
 }
 
 // Whether the last two fetched words are both TRAP.
+#[tactic(auto, unfolding(rules::specs::Sequences::trap_twice))]
 pub fn trap_twice(f: Fetch) -> bool
     ensures { result ≡ trap_twice f }
 {
@@ -115,6 +122,7 @@ pub fn trap_twice(f: Fetch) -> bool
 }
 
 // "Trap from user mode: the same, except vector 34o when the last two fetched words are not both TRAP"
+#[tactic(auto, unfolding(rules::specs::Sequences::trap_taken))]
 pub fn trap_taken(c: Core, v: u64) -> bool
     ensures { result ≡ trap_taken c v }
 {
@@ -122,6 +130,7 @@ pub fn trap_taken(c: Core, v: u64) -> bool
 }
 
 // "that changes nothing. Trap from exec changes nothing."
+#[tactic(auto, unfolding(rules::specs::Sequences::trapped, rules::specs::Choice::pick))]
 pub fn trapped(c: Core, v: u64) -> Core
     ensures { result ≡ trapped c v }
 {
@@ -134,6 +143,7 @@ pub fn trapped(c: Core, v: u64) -> Core
 }
 
 // A trap's shape: its vector is in the list.
+#[tactic(auto, unfolding(rules::specs::Sequences::vector_listed, rules::specs::Registers::among, rules::specs::Registers::is_found))]
 pub fn vector_listed(v: u64) -> bool
     ensures { result ≡ vector_listed v }
 {
@@ -144,6 +154,7 @@ pub fn vector_listed(v: u64) -> bool
 }
 
 // Whether an interrupt or a trap may come: not while the unit waits, and not in FCN 3.
+#[tactic(auto, unfolding(rules::specs::Sequences::idle))]
 pub fn idle(w: Wait, fcn: u16) -> bool
     ensures { result ≡ idle w fcn }
 {
@@ -156,6 +167,7 @@ pub fn idle(w: Wait, fcn: u16) -> bool
 }
 
 // "INIT clears KTCS, the wait, the fetch memory ..; other registers stay (H)."
+#[tactic(auto, unfolding(rules::specs::Unit::init_core))]
 pub fn init_core(c: Core) -> Core
     ensures { result ≡ init_core c }
 {

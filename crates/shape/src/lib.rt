@@ -1,5 +1,6 @@
 // Steps 1 and 2 of an access: whether it is well shaped, and what the wait says of it (01, "Order in one access").
 #![tactic(auto)]
+
 ghost use Rattle.std.specs.Prelude.{◌≡◌};
 ghost use Rattle.rules.specs.Choice.{pick};
 ghost use Rattle.rules.specs.Steps.{listed, word_dati, ill_fitting, well_shaped, service_dato, start_read, due_when, due_of};
@@ -9,12 +10,14 @@ use rules::{Access, Core, Due, Wait};
 // Step 1 ---------------------------------------------------------------------------------------------------------------
 
 // "Operations: 0 DATI, 1 DATIP, 2 DATO, 3 DATOB. States: 0 FETCH .. 4 SERVICE. Width: 0 word, 1 byte."
+#[tactic(auto, unfolding(rules::specs::Steps::listed))]
 fn listed(q: Access) -> bool
     ensures { result ≡ listed q }
 {
     (q.op < 4) & (q.state < 5) & (q.width < 2)
 }
 
+#[tactic(auto, unfolding(rules::specs::Steps::word_dati))]
 fn word_dati(q: Access) -> bool
     ensures { result ≡ word_dati q }
 {
@@ -22,6 +25,7 @@ fn word_dati(q: Access) -> bool
 }
 
 // "DATO as byte, DATOB as word; FETCH not a word DATI"
+#[tactic(auto, unfolding(rules::specs::Steps::ill_fitting, rules::specs::Fetched::is_dato))]
 fn ill_fitting(q: Access) -> bool
     ensures { result ≡ ill_fitting q }
 {
@@ -31,6 +35,7 @@ fn ill_fitting(q: Access) -> bool
 }
 
 // "1. Shape (answer 1)", with memory of this length.
+#[tactic(auto, unfolding(rules::specs::Steps::well_shaped))]
 pub fn well_shaped(len: usize, q: Access) -> bool
     ensures { result ≡ well_shaped len q }
 {
@@ -40,6 +45,7 @@ pub fn well_shaped(len: usize, q: Access) -> bool
 // Step 2 ---------------------------------------------------------------------------------------------------------------
 
 // "the unit waits for two SERVICE DATOs"
+#[tactic(auto, unfolding(rules::specs::Steps::service_dato, rules::specs::Fetched::is_dato))]
 fn service_dato(q: Access) -> bool
     ensures { result ≡ service_dato q }
 {
@@ -47,6 +53,7 @@ fn service_dato(q: Access) -> bool
 }
 
 // "the next two accesses other than a fetch must be word DATIs"
+#[tactic(auto, unfolding(rules::specs::Steps::start_read))]
 fn start_read(q: Access) -> bool
     ensures { result ≡ start_read q }
 {
@@ -54,6 +61,7 @@ fn start_read(q: Access) -> bool
 }
 
 // What is due, where it is what comes.
+#[tactic(auto, unfolding(rules::specs::Choice::pick))]
 fn due_if(comes: bool, due: Due) -> Due
     ensures { result ≡ pick comes due Due.OutOfTurn }
 {
@@ -68,6 +76,7 @@ fn service_due(q: Access, due: Due) -> Due
 }
 
 // Nothing is waited for: in FCN 3 the first START read is due, and "Fetches may come before the first".
+#[tactic(auto, unfolding(rules::specs::Steps::due_when, rules::specs::Choice::pick))]
 fn first_due(fcn: u16, q: Access) -> Due
     ensures { result ≡ due_when Wait.Nothing fcn q }
 {
@@ -79,6 +88,7 @@ fn first_due(fcn: u16, q: Access) -> Due
 }
 
 // "2. The wait (2); a due sequence access ends here."
+#[tactic(auto, unfolding(rules::specs::Steps::due_of, rules::specs::Steps::due_when))]
 pub fn due_of(c: Core, q: Access) -> Due
     ensures { result ≡ due_of c q }
 {

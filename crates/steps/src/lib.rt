@@ -8,6 +8,7 @@ use rules::{Access, Core, Entry, Fault, Fetch, Kind, Ruling};
 // Steps 3 and 5 --------------------------------------------------------------------------------------------------------
 
 // "3. Unpaged odd word (3)." and "5. Paged odd word (4)."
+#[tactic(auto, unfolding(rules::specs::Steps::odd_word))]
 pub fn odd_word(width: u64, a: u16) -> bool
     ensures { result ≡ odd_word width a }
 {
@@ -17,6 +18,7 @@ pub fn odd_word(width: u64, a: u16) -> bool
 // Steps 6 to 9 ---------------------------------------------------------------------------------------------------------
 
 // "7. Residency (5). 8. Write key for operations 1-3 (6). 9. Privacy (7)."; `watched` says that privacy is asked.
+#[tactic(auto, unfolding(rules::specs::Steps::keys_of, rules::specs::Maps::low9, rules::specs::Choice::pick))]
 pub fn keys_of(op: u64, watched: bool, w: u16) -> Ruling
     ensures { result ≡ keys_of op watched w }
 {
@@ -33,6 +35,7 @@ pub fn keys_of(op: u64, watched: bool, w: u16) -> Ruling
 }
 
 // "6. Walk (9).", where "10 takes 9's place" (T-01), and the keys. "Exec page 0: .. every key passes."
+#[tactic(auto, unfolding(rules::specs::Steps::judged))]
 pub fn judged(op: u64, watched: bool, e: Entry) -> Ruling
     ensures { result ≡ judged op watched e }
 {
@@ -44,6 +47,7 @@ pub fn judged(op: u64, watched: bool, e: Entry) -> Ruling
 }
 
 // Whether step 9 asks: "Privacy: not a fetch, flag set, page private."
+#[tactic(auto, unfolding(rules::specs::Steps::watches))]
 pub fn watches(f: Fetch, q: Access) -> bool
     ensures { result ≡ watches f q }
 {
@@ -53,6 +57,7 @@ pub fn watches(f: Fetch, q: Access) -> bool
 // Step 11 --------------------------------------------------------------------------------------------------------------
 
 // The page's public bit: "exec page 0 counts as private".
+#[tactic(auto, unfolding(rules::specs::Steps::public_page))]
 pub fn public_page(e: Entry) -> bool
     ensures { result ≡ public_page e }
 {
@@ -64,6 +69,7 @@ pub fn public_page(e: Entry) -> bool
 }
 
 // A page that is judged as private: exec page 0 "is never judged for privacy or entry point".
+#[tactic(auto, unfolding(rules::specs::Steps::guarded))]
 pub fn guarded(e: Entry) -> bool
     ensures { result ≡ guarded e }
 {
@@ -75,6 +81,7 @@ pub fn guarded(e: Entry) -> bool
 }
 
 // A user's privileged word, and any but the entry point where the fetch goes from public to private.
+#[tactic(auto, unfolding(rules::specs::Steps::forbidden_by))]
 pub fn forbidden_by(k: Kind, user: bool, entering: bool) -> bool
     ensures { result ≡ forbidden_by k user entering }
 {
@@ -90,6 +97,7 @@ pub fn forbidden_by(k: Kind, user: bool, entering: bool) -> bool
 }
 
 // "Word rule, paged fetches: user HALT 0, WAIT 1, RESET 5; or flag set, page private, word not 000400o."
+#[tactic(auto, unfolding(rules::specs::Steps::forbidden))]
 pub fn forbidden(c: Core, e: Entry, w: u16) -> bool
     ensures { result ≡ forbidden c e w }
 {

@@ -6,6 +6,7 @@ ghost use Rattle.rules.specs.Order.{core_stored, operating_effect, associative_e
 use rules::{Associative, Core, Effect, Maps, Operating, Part};
 
 // KTCS by its own rule, the six that remember by word and byte; the map registers are not of the core.
+#[tactic(auto, unfolding(rules::specs::Order::core_stored, rules::specs::Unit::with_ktcs, rules::specs::Unit::with_kept))]
 pub fn core_stored(c: Core, p: Part, v: u16, g: Operating) -> Core
     ensures { result ≡ core_stored c p v g }
 {
@@ -30,6 +31,7 @@ pub fn core_stored(c: Core, p: Part, v: u16, g: Operating) -> Core
 }
 
 // "A store into KTUM or KTEM, byte or word, empties all cells and sets the counter to 10o."
+#[tactic(auto, unfolding(rules::specs::Order::operating_effect))]
 pub fn operating_effect(r: Maps, p: Part, v: u16, g: Operating) -> Effect
     ensures { result ≡ operating_effect r p v g }
 {
@@ -50,6 +52,7 @@ pub fn operating_effect(r: Maps, p: Part, v: u16, g: Operating) -> Effect
 }
 
 // "stores into it [KTMR] are accepted and do nothing"; a scratchpad word takes its part.
+#[tactic(auto, unfolding(rules::specs::Order::associative_effect))]
 pub fn associative_effect(p: Part, v: u16, g: Associative) -> Effect
     ensures { result ≡ associative_effect p v g }
 {
@@ -60,6 +63,7 @@ pub fn associative_effect(p: Part, v: u16, g: Associative) -> Effect
 }
 
 // "DATOB writes the low 8 bits of data."
+#[tactic(auto, unfolding(rules::specs::Order::memory_effect))]
 pub fn memory_effect(p: Part, at: usize, v: u16) -> Effect
     ensures { result ≡ memory_effect p at v }
 {

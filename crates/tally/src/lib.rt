@@ -22,6 +22,7 @@ pub struct Told {
 }
 
 // One more call or line.
+#[tactic(auto, unfolding(crate::specs::Tally::next))]
 pub fn next(n: u64) -> u64
     ensures { result ≡ next n }
 {
@@ -29,6 +30,7 @@ pub fn next(n: u64) -> u64
 }
 
 // The cast loses nothing, since 18 bits are left.
+#[tactic(auto, unfolding(crate::specs::Tally::printed_as))]
 fn printed_as(p: Physical) -> rowtext::Printed
     ensures { result ≡ printed_as p }
 {
@@ -39,6 +41,7 @@ fn printed_as(p: Physical) -> rowtext::Printed
 }
 
 // A call's row.
+#[tactic(auto, unfolding(crate::specs::Tally::call_row, crate::specs::Tally::shown_row))]
 fn call_row(call: u64, reply: Reply) -> Text
     ensures { Holds result (call_row call reply) }
 {
@@ -56,6 +59,7 @@ fn call_row(call: u64, reply: Reply) -> Text
 }
 
 // "call numbers count A, I, T and X, refused ones too"
+#[tactic(auto, unfolding(crate::specs::Tally::call_counted))]
 pub fn after_call(b: Bench, reply: Reply) -> Told
     ensures bench { result.bench ≡ call_counted b reply.unit }
     ensures text { Holds result.text (call_row (next b.calls) reply) }
@@ -72,6 +76,7 @@ pub fn after_call(b: Bench, reply: Reply) -> Told
 }
 
 // A line that is no call.
+#[tactic(auto, unfolding(crate::specs::Tally::line_counted))]
 pub fn after_line(b: Bench, text: Text) -> Told
     ensures { (result.bench ≡ line_counted b) × (result.text ≡ text) }
 {

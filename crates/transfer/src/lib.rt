@@ -17,6 +17,7 @@ pub fn ended(o: Outcome, k: Cells) -> Ran
 }
 
 // What a read of a register gives: the cells answer for it, or the rest of the unit.
+#[tactic(auto, unfolding(rules::specs::Order::source_in, rules::specs::Order::word_from))]
 pub fn word_in(c: Core, maps: Maps, k: Cells, g: Register) -> u16
     ensures { result ≡ word_from k (source_in c maps g) }
 {
@@ -27,6 +28,7 @@ pub fn word_in(c: Core, maps: Maps, k: Cells, g: Register) -> u16
 }
 
 // "Reads give the whole word at the even address."
+#[tactic(auto, unfolding(rules::specs::Order::source_at, rules::specs::Order::word_from, rules::specs::Order::word_read))]
 pub fn word_read(m: &[u8], j: Job, k: Cells, at: usize, t: Target) -> u16
     ensures { result ≡ word_read m.now j k at t }
 {
@@ -37,6 +39,7 @@ pub fn word_read(m: &[u8], j: Job, k: Cells, at: usize, t: Target) -> u16
 }
 
 // A store into a register.
+#[tactic(auto, unfolding(rules::specs::Order::stored_in, rules::specs::Order::outcome))]
 fn stored_in(j: Job, p: Part, at: usize, g: Register) -> Outcome
     ensures { result ≡ stored_in j p at g }
 {
@@ -60,6 +63,7 @@ fn stored_in(j: Job, p: Part, at: usize, g: Register) -> Outcome
 }
 
 // "Then the store."
+#[tactic(auto, unfolding(rules::specs::Order::stored_at, rules::specs::Order::outcome))]
 fn stored_at(j: Job, p: Part, at: usize, t: Target) -> Outcome
     ensures { result ≡ stored_at j p at t }
 {
@@ -75,6 +79,7 @@ fn stored_at(j: Job, p: Part, at: usize, t: Target) -> Outcome
 }
 
 // A read by operations 0 and 1, or a store by 2 and 3.
+#[tactic(auto, unfolding(rules::specs::Order::transferred, rules::specs::Order::outcome, rules::specs::Choice::pick))]
 pub fn transferred(m: &[u8], j: Job, at: usize, t: Target, k: Cells) -> Ran
     ensures { result ≡ run m.now j.maps (transferred m.now j at t) k }
 {

@@ -11,6 +11,7 @@ use rules::{
     Unit, Wait,
 };
 
+#[tactic(auto, unfolding(rules::specs::Calls::interrupt_of, rules::specs::Choice::pick))]
 fn interrupt_of(c: Core) -> Outcome
     ensures { done result ≡ interrupt_of c }
 {
@@ -22,6 +23,7 @@ fn interrupt_of(c: Core) -> Outcome
 }
 
 // "In every call 1 comes before 2"
+#[tactic(auto, unfolding(rules::specs::Calls::trap_of, rules::specs::Choice::pick))]
 fn trap_of(c: Core, v: u64) -> Outcome
     ensures { done result ≡ trap_of c v }
 {
@@ -35,6 +37,7 @@ fn trap_of(c: Core, v: u64) -> Outcome
     endings::refused(c, Answer::Misshapen)
 }
 
+#[tactic(auto, unfolding(rules::specs::Calls::init_of, rules::specs::Order::outcome))]
 fn init_of(c: Core, r: Maps) -> Outcome
     ensures { done result ≡ init_of c r }
 {
@@ -45,6 +48,7 @@ fn init_of(c: Core, r: Maps) -> Outcome
     }
 }
 
+#[tactic(auto, unfolding(rules::specs::Calls::maps_after))]
 fn maps_after(e: Effect, r: Maps) -> Maps
     ensures { result ≡ maps_after e r }
 {
@@ -58,6 +62,7 @@ fn maps_after(e: Effect, r: Maps) -> Maps
     }
 }
 
+#[tactic(auto, unfolding(rules::specs::Calls::cells_after))]
 fn cells_after(e: Effect, k: Cells) -> Cells
     ensures { result ≡ cells_after e k }
 {
@@ -72,6 +77,7 @@ fn cells_after(e: Effect, k: Cells) -> Cells
 }
 
 // What an effect does to memory.
+#[tactic(auto, unfolding(rules::specs::Calls::memory_after))]
 pub fn store(m: &mut [u8], e: Effect)
     ensures { m.new ≡ memory_after e m.old }
 {
@@ -86,6 +92,7 @@ pub fn store(m: &mut [u8], e: Effect)
 }
 
 // The unit after a decision.
+#[tactic(auto, unfolding(rules::specs::Calls::settled))]
 fn unit_after(r: Maps, d: Ran) -> Reply
     ensures { (m : Memory) → result ≡ (settled m r d).reply }
 {
@@ -105,6 +112,7 @@ fn unit_after(r: Maps, d: Ran) -> Reply
 }
 
 // One access of the processor's, over the memory that the host lends. Memory changes by the store of an access that is done, and no other.
+#[tactic(auto, unfolding(rules::specs::Calls::call_of, rules::specs::Calls::called, rules::specs::Calls::settled))]
 pub fn access(u: Unit, m: &mut [u8], q: Access) -> Reply
     ensures reply { result ≡ (call_of m.old u (Call.Access q)).reply }
     ensures memory { m.new ≡ (call_of m.old u (Call.Access q)).memory }
@@ -120,6 +128,7 @@ pub fn access(u: Unit, m: &mut [u8], q: Access) -> Reply
 }
 
 // A device interrupts.
+#[tactic(auto, unfolding(rules::specs::Calls::call_of, rules::specs::Calls::called))]
 pub fn interrupt(u: Unit) -> Reply
     ensures { (m : Memory) → result ≡ (call_of m u Call.Interrupt).reply }
 {
@@ -130,6 +139,7 @@ pub fn interrupt(u: Unit) -> Reply
 }
 
 // The processor traps through a vector, a number of any size.
+#[tactic(auto, unfolding(rules::specs::Calls::call_of, rules::specs::Calls::called))]
 pub fn trap(u: Unit, vector: u64) -> Reply
     ensures { (m : Memory) → result ≡ (call_of m u (Call.Trap vector)).reply }
 {
@@ -140,6 +150,7 @@ pub fn trap(u: Unit, vector: u64) -> Reply
 }
 
 // The bus signal INIT, which is always accepted.
+#[tactic(auto, unfolding(rules::specs::Calls::call_of, rules::specs::Calls::called))]
 pub fn init(u: Unit) -> Reply
     ensures { (m : Memory) → result ≡ (call_of m u Call.Init).reply }
 {
@@ -150,6 +161,7 @@ pub fn init(u: Unit) -> Reply
 }
 
 // "all zero"
+#[tactic(auto, unfolding(rules::specs::Unit::zero_unit, rules::specs::Unit::empty_cell))]
 fn zero(size: Size) -> Unit
     ensures { result ≡ zero_unit size }
 {
@@ -174,6 +186,7 @@ fn zero(size: Size) -> Unit
 }
 
 // "A fresh unit is all zero, then INIT.", of either size.
+#[tactic(auto, unfolding(rules::specs::Calls::fresh))]
 pub fn fresh(size: Size) -> Unit
     ensures { result ≡ fresh size }
 {

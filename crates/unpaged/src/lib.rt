@@ -7,6 +7,7 @@ ghost use Rattle.rules.specs.Order.{unpaged_reached, unpaged_target, unpaged_fro
 use rules::{Access, Answer, Cells, Core, Job, Maps, Place, Ran, Target};
 
 // A target that is there. A fetch keeps the public flag, which moves "only in normal paging".
+#[tactic(auto, unfolding(rules::specs::Order::unpaged_reached, rules::specs::Choice::pick))]
 fn unpaged_reached(m: &[u8], j: Job, at: usize, t: Target, k: Cells) -> Ran
     ensures { result ≡ run m.now j.maps (unpaged_reached m.now j at t) k }
 {
@@ -19,6 +20,7 @@ fn unpaged_reached(m: &[u8], j: Job, at: usize, t: Target, k: Cells) -> Ran
 }
 
 // "10. Target at or beyond L and not a register above (9)."; the window unpaged is a time-out.
+#[tactic(auto, unfolding(rules::specs::Order::unpaged_target))]
 fn unpaged_target(m: &[u8], j: Job, at: usize, pl: Place, k: Cells) -> Ran
     ensures { result ≡ run m.now j.maps (unpaged_target m.now j at pl) k }
 {
@@ -30,6 +32,7 @@ fn unpaged_target(m: &[u8], j: Job, at: usize, pl: Place, k: Cells) -> Ran
 }
 
 // "3. Unpaged odd word (3).", then step 4.
+#[tactic(auto, unfolding(rules::specs::Order::unpaged_from, rules::specs::Choice::pick))]
 pub fn unpaged_from(m: &[u8], c: Core, r: Maps, q: Access, k: Cells) -> Ran
     ensures { result ≡ run m.now r (unpaged_from m.now k.size c r q) k }
 {

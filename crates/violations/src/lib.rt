@@ -7,6 +7,7 @@ ghost use Rattle.rules.specs.Sequences.{service_awaited, flagged, start_ended, d
 use rules::{Access, Core, Fault, KEPT, Ktcs, Wait};
 
 // What a violation, an interrupt and a trap share: "IU takes UM; UM clears; .. fetch memory clears; the unit waits for two SERVICE DATOs."
+#[tactic(auto, unfolding(rules::specs::Sequences::service_awaited))]
 pub fn service_awaited(s: Ktcs, kept: [u16; KEPT]) -> Core
     ensures { result ≡ service_awaited s kept }
 {
@@ -21,6 +22,7 @@ pub fn service_awaited(s: Ktcs, kept: [u16; KEPT]) -> Core
 }
 
 // "its flag is set (9 has none)", and 10 has none: "State changes are as for 9" (T-01).
+#[tactic(auto, unfolding(rules::specs::Sequences::flagged))]
 pub fn flagged(s: Ktcs, f: Fault) -> Ktcs
     ensures { result ≡ flagged s f }
 {
@@ -35,6 +37,7 @@ pub fn flagged(s: Ktcs, f: Fault) -> Ktcs
     }
 }
 
+#[tactic(auto, unfolding(rules::specs::Choice::pick))]
 fn fcn_ended(fcn: u16) -> u16
     ensures { result ≡ pick (eqb fcn 3) 2 fcn }
 {
@@ -42,6 +45,7 @@ fn fcn_ended(fcn: u16) -> u16
 }
 
 // "FCN 3 becomes 2"
+#[tactic(auto, unfolding(rules::specs::Sequences::start_ended))]
 pub fn start_ended(s: Ktcs) -> Ktcs
     ensures { result ≡ start_ended s }
 {
@@ -49,6 +53,7 @@ pub fn start_ended(s: Ktcs) -> Ktcs
 }
 
 // What the data lines carry: "the store's data .. else 0"; DATO and DATOB are operations 2 and 3.
+#[tactic(auto, unfolding(rules::specs::Sequences::data_lines, rules::specs::Choice::pick))]
 pub fn data_lines(q: Access) -> u16
     ensures { result ≡ data_lines q }
 {
@@ -56,6 +61,7 @@ pub fn data_lines(q: Access) -> u16
 }
 
 // "KTDT the store's data or, for 8, the fetched word, else 0"
+#[tactic(auto, unfolding(rules::specs::Sequences::fault_data))]
 pub fn fault_data(q: Access, f: Fault) -> u16
     ensures { result ≡ fault_data q f }
 {
@@ -72,6 +78,7 @@ pub fn fault_data(q: Access, f: Fault) -> u16
 }
 
 // "KTAD takes the virtual address (for the inner window access KTAD stays)"
+#[tactic(auto, unfolding(rules::specs::Sequences::address_kept, rules::specs::Choice::pick))]
 pub fn address_kept(kept: [u16; KEPT], inner: bool, a: u16) -> [u16; KEPT]
     ensures { result ≡ address_kept kept inner a }
 {
@@ -83,6 +90,7 @@ pub fn address_kept(kept: [u16; KEPT], inner: bool, a: u16) -> [u16; KEPT]
 }
 
 // KTAD and KTDT after a refusal.
+#[tactic(auto, unfolding(rules::specs::Sequences::lines_kept))]
 pub fn lines_kept(kept: [u16; KEPT], inner: bool, a: u16, d: u16) -> [u16; KEPT]
     ensures { result ≡ lines_kept kept inner a d }
 {
@@ -90,6 +98,7 @@ pub fn lines_kept(kept: [u16; KEPT], inner: bool, a: u16, d: u16) -> [u16; KEPT]
 }
 
 // "Any of answers 4-8, or a paged 9", of the core; and 10: "State changes are as for 9" (T-01).
+#[tactic(auto, unfolding(rules::specs::Sequences::violated))]
 pub fn violated(c: Core, q: Access, inner: bool, f: Fault) -> Core
     ensures { result ≡ violated c q inner f }
 {
@@ -99,6 +108,7 @@ pub fn violated(c: Core, q: Access, inner: bool, f: Fault) -> Core
 }
 
 // An unpaged 9: "unpaged: step 4, KTAD, KTDT".
+#[tactic(auto, unfolding(rules::specs::Sequences::timed_out, rules::specs::Unit::with_kept))]
 pub fn timed_out(c: Core, q: Access) -> Core
     ensures { result ≡ timed_out c q }
 {
