@@ -1,5 +1,6 @@
 // The calls of the unit: access, interrupt, trap and INIT, and the making of a fresh unit. Here alone memory, cells and map registers change.
 #![tactic(auto)]
+
 ghost use Rattle.std.specs.Prelude.{◌≡◌};
 ghost use Rattle.rules.specs.Memory.{Memory};
 ghost use Rattle.rules.specs.Program.{done};
