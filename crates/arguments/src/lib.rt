@@ -1,5 +1,6 @@
 // What the bench program's arguments ask for, and what it says where that is no unit.
 #![tactic(auto)]
+
 ghost use Rattle.std.specs.Prelude.{◌≡◌};
 ghost use Rattle.arguments.specs.Asked.{same, by_count, asked_for};
 ghost use Rattle.arguments.specs.Told.{refusal_text, usage_text};
@@ -18,6 +19,7 @@ pub enum Asked {
 const USUAL: u64 = 8;
 
 // The same bytes, and as many.
+#[tactic(auto, using(crate::proofs::Bytes::other_length, crate::proofs::Bytes::same_more, crate::proofs::Bytes::same_end))]
 fn same(a: &[u8], b: &[u8]) -> bool
     ensures { result ≡ same a.now b.now }
 {
