@@ -19,6 +19,7 @@ pub enum Asked {
 const USUAL: u64 = 8;
 
 // The same bytes, and as many.
+#[tactic(auto, using(crate::proofs::Bytes::other_length, crate::proofs::Bytes::same_more, crate::proofs::Bytes::same_end))]
 fn same(a: &[u8], b: &[u8]) -> bool
     ensures { result ≡ same a.now b.now }
 {

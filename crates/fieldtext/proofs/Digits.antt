@@ -77,7 +77,7 @@ module _ (base most : ℕ) (f : List ℕ) where
 
 module _ (f : List ℕ) where
   -- a field whose digits say a value is a number by that value
-  pub number_worth : (v : ℕ) → Worth v ≡ digits_of 8 6 f → number_of f ≡ pick (ltb v 65536) (Value v) NotOne
+  number_worth : (v : ℕ) → Worth v ≡ digits_of 8 6 f → number_of f ≡ pick (ltb v 65536) (Value v) NotOne
   unfolding digits_of number_of is_number worth pick
   number_worth v = go (are_digits 8 6 f)
     where
@@ -85,6 +85,14 @@ module _ (f : List ℕ) where
           → pick (t && ltb (worth_from 8 0 f) 65536) (Value (worth_from 8 0 f)) NotOne ≡ pick (ltb v 65536) (Value v) NotOne
       go true e = let w : v ≡ worth_from 8 0 f = cc in simp w
       go false e = cc
+
+  pub number_fits : (v : ℕ) → Worth v ≡ digits_of 8 6 f → v < 65536 → number_of f ≡ Value v
+  unfolding pick
+  number_fits v e h = simp (number_worth v e, lt-ltb _ _ h)
+
+  pub number_large : (v : ℕ) → Worth v ≡ digits_of 8 6 f → 65536 ≤ v → number_of f ≡ NotOne
+  unfolding pick
+  number_large v e h = simp (number_worth v e, le-ltb _ _ h)
 
   pub number_other : Other ≡ digits_of 8 6 f → number_of f ≡ NotOne
   unfolding digits_of number_of is_number worth pick

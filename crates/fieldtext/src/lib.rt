@@ -58,6 +58,7 @@ fn is_digit(b: u8, base: u64) -> bool
 }
 
 // What 1 to `most` digits of a base say.
+#[tactic(auto, using(crate::proofs::Digits::digits_none, crate::proofs::Digits::digits_many, crate::proofs::Digits::digit_range))]
 fn read_digits(bytes: &[u8], base: u64, most: usize) -> Figures
     requires { (base ≤ 10) × (most ≤ 9) }
     ensures { result ≡ digits_of base most bytes.now }
@@ -82,7 +83,7 @@ fn read_digits(bytes: &[u8], base: u64, most: usize) -> Figures
 }
 
 // "Numbers are 1-6 octal digits up to 177777."
-#[tactic(auto, unfolding(rules::specs::Choice::pick))]
+#[tactic(auto, using(crate::proofs::Digits::number_fits, crate::proofs::Digits::number_large, crate::proofs::Digits::number_other))]
 pub fn octal(field: &[u8]) -> Number
     ensures { result ≡ number_of field.now }
 {
@@ -108,6 +109,7 @@ pub fn count(bytes: &[u8]) -> Figures
 }
 
 // Reads one more number after those that were read before.
+#[tactic(auto, using(crate::proofs::Read::took_past))]
 pub fn next_number(line: &[u8], before: Reading) -> Reading
     ensures { Took line.now before result }
 {
@@ -136,6 +138,7 @@ pub fn next_number(line: &[u8], before: Reading) -> Reading
 }
 
 // No field is left, and all that were read are numbers.
+#[tactic(auto, using(crate::proofs::Scan::none_left))]
 pub fn finished(line: &[u8], last: Reading) -> bool
     ensures { result ≡ last.good && none (fields_at line.now last.at) }
 {

@@ -5,7 +5,7 @@ use mathlib.Core.Bool.{Bool, true, false, ◌&&◌}
 use mathlib.Core.List.{List, [], ◌∷◌, ◌++◌, append-nil, append_assoc}
 use native.Mathlib.Numerals.{add-one}
 use native.Mathlib.Omega.{arith}
-use lib.ListN.{length, get_or, take, set, length-append, length-set}
+use lib.ListN.{length, get_or, take, length-append, length-set}
 use lib.Dec.{ltb, eqb}
 use lib.Seq.{take-suc-set}
 use borrow.Author.Tests.{le-ltb, lt-ltb, ltb-true, ltb-false, eqb-true}
@@ -16,7 +16,6 @@ use Rattle.fieldtext.specs.Number.{all_digits, are_digits, worth, is_number}
 use Rattle.fieldtext.proofs.Scan.{fields_split}
 use Rattle.fieldtext.proofs.Digits.{and_left, and_right}
 use Rattle.linetext.specs.Line.{all_numbers, numbers, store_of, access_of, trap_of, alone_of, by_letter, by_name, from_fields, line_of}
-use Rattle.linetext.specs.declared.Line.{Line}
 use Rattle.linetext.specs.declared.Line.TheVariants.{Bad}
 use Rattle.gathering.specs.Gather.{nothing_yet, push_of, push_all, gathered, line_in}
 use Rattle.gathering.specs.declared.Gather.{Gather}

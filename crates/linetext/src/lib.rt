@@ -45,7 +45,6 @@ fn first_number(line: &[u8]) -> Reading
 }
 
 // "`W` address value (even, one memory word)"
-#[tactic(auto, unfolding(rules::specs::Choice::pick))]
 fn store(line: &[u8]) -> Line
     ensures { result ≡ store_of (fields_at line.now 2) }
 {
@@ -60,7 +59,6 @@ fn store(line: &[u8]) -> Line
 }
 
 // "`A` operation state width address data"
-#[tactic(auto, unfolding(rules::specs::Choice::pick))]
 fn access(line: &[u8]) -> Line
     ensures { result ≡ access_of (fields_at line.now 2) }
 {
@@ -83,7 +81,6 @@ fn access(line: &[u8]) -> Line
 }
 
 // "`T` vector"
-#[tactic(auto, unfolding(rules::specs::Choice::pick))]
 fn trap(line: &[u8]) -> Line
     ensures { result ≡ trap_of (fields_at line.now 2) }
 {
@@ -96,7 +93,7 @@ fn trap(line: &[u8]) -> Line
 }
 
 // "`I` (interrupt)", "`X` (INIT)": the letter is the whole line.
-#[tactic(auto, unfolding(crate::specs::Line::alone_of, rules::specs::Choice::pick))]
+#[tactic(auto, using(crate::proofs::Chain::alone_end), unfolding(crate::specs::Line::alone_of, rules::specs::Choice::pick))]
 fn alone(line: &[u8], asks: Line) -> Line
     ensures { result ≡ alone_of asks (fields_at line.now 2) }
 {
