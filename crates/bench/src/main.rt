@@ -4,134 +4,142 @@
 
 use arguments::Asked;
 use benchwork::Progress;
-use libc::{STDERR_FILENO, STDIN_FILENO, STDOUT_FILENO};
 use rowtext::Text;
 use rules::{Making, Size};
+use std::env::{Env, FillError};
+use std::fmt::{Display, Formatter};
+use std::io::{Read, Write};
+use std::{fmt, io};
 
-// What one read of the input leaves, and whether there is more to come.
+// What ends the work before the input does.
 #[derive(Drop)]
-struct Took {
-    progress: Progress,
-    next: Next,
+enum Failure {
+    Input(io::Error),
+    Output(io::Error),
 }
 
-#[derive(Drop)]
-enum Next {
-    More,
-    Ended,
-    Failed,
-}
-
-// Writes to standard output, and says on standard error if that fails.
-fn write(bytes: &[u8]) -> bool {
-    if io::write_all(STDOUT_FILENO, bytes) {
-        return true;
+impl Display for Failure {
+    fn fmt<W: fmt::Write>(&self, f: &mut Formatter<W>) -> fmt::Result {
+        match self {
+            Failure::Input(e) => write!(f, "bench: standard input cannot be read: {e}"),
+            Failure::Output(e) => write!(f, "bench: standard output cannot be written: {e}"),
+        }
     }
-    os::fail(b"bench: standard output cannot be written");
-    false
 }
 
-fn say(t: Text) -> bool {
+fn write<W: Write>(output: &mut W, bytes: &[u8]) -> Result<(), Failure> {
+    output.write_all(bytes).map_err(Failure::Output)
+}
+
+fn say<W: Write>(output: &mut W, t: Text) -> Result<(), Failure> {
     let from = t.from;
     let bytes = t.bytes;
     if from < 64 {
-        return write(&bytes[from..]);
+        write(output, &bytes[from..])
+    } else {
+        Ok(())
     }
-    true
 }
 
 // The bytes of one read, one after the other, until a row cannot be written.
-fn feed(s: Progress, m: &mut [u8], input: &[u8]) -> Took {
+fn feed<W: Write>(
+    output: &mut W,
+    s: Progress,
+    m: &mut [u8],
+    input: &[u8],
+) -> Result<Progress, Failure> {
     let mut progress = s;
-    let mut i = 0;
-    while i < input.len() {
-        let said = benchwork::step(progress, m, input[i]);
+    for byte in input {
+        let said = benchwork::step(progress, m, *byte);
         progress = said.progress;
-        let text = said.text;
-        if !say(text) {
-            return Took {
-                progress,
-                next: Next::Failed,
-            };
-        }
-        i += 1;
+        say(output, said.text)?;
     }
-    Took {
-        progress,
-        next: Next::More,
-    }
+    Ok(progress)
 }
 
-// One read of the input, and what it asks for.
-fn turn(s: Progress, m: &mut [u8]) -> Took {
-    let mut buffer = io::large_buffer();
-    let got = libc::read(STDIN_FILENO, &mut buffer);
-    if got < 0 {
-        os::fail(b"bench: standard input cannot be read");
-        return Took {
-            progress: s,
-            next: Next::Failed,
-        };
-    }
-    let n = io::count(got, &buffer);
+// One read of the input, and what it asks for; nothing at the input's end.
+fn turn<R: Read, W: Write>(
+    input: &mut R,
+    output: &mut W,
+    s: Progress,
+    m: &mut [u8],
+    buffer: &mut [u8],
+) -> Result<Option<Progress>, Failure> {
+    let n = input.read(buffer).map_err(Failure::Input)?;
     if n == 0 {
-        return Took {
-            progress: s,
-            next: Next::Ended,
-        };
+        Ok(None)
+    } else {
+        Ok(Some(feed(output, s, m, &buffer[..n])?))
     }
-    feed(s, m, &buffer[..n])
 }
 
 // The count of turns only shows that the loop ends: no input is that long.
-fn run(size: Size, m: &mut [u8]) {
+fn run<R: Read, W: Write>(
+    input: &mut R,
+    output: &mut W,
+    size: Size,
+    m: &mut [u8],
+) -> Result<(), Failure> {
+    let mut buffer = [0u8; 65536];
     let mut progress = benchwork::start(size);
-    let mut turns = u64::MAX;
-    while 0 < turns {
-        let t = turn(progress, m);
-        progress = t.progress;
-        let next = t.next;
-        match next {
-            Next::More => {}
-            Next::Ended => {
-                say(benchwork::end(progress, m));
-                return;
-            }
-            Next::Failed => return,
+    for _ in 0..u64::MAX {
+        match turn(input, output, progress, m, &mut buffer)? {
+            Some(next) => progress = next,
+            None => return say(output, benchwork::end(progress, m)),
         }
-        turns -= 1;
     }
+    Ok(())
 }
 
 // The whole output of the whole input, with a unit of that size.
-fn work(size: Size) {
+fn work<R: Read, W: Write>(input: &mut R, output: &mut W, size: Size) -> Result<(), Failure> {
     let mut memory = [0u8; 65536];
-    if write(&rowtext::header()) {
-        run(size, &mut memory);
-    }
+    write(output, &rowtext::header())?;
+    run(input, output, size, &mut memory)
+}
+
+// What standard error does not take is told nowhere.
+fn tell(rt: HostRuntime, bytes: &[u8]) {
+    let _ = rt.stderr().write_all(bytes);
 }
 
 // A unit that is not made is told before anything is read or printed.
-fn make(making: Making) {
+fn make(rt: HostRuntime, making: Making) {
     match making {
-        Making::With(size) => work(size),
-        Making::OtherCount => {
-            io::write_all(STDERR_FILENO, &arguments::refusal());
+        Making::With(size) => {
+            if let Err(failure) = work(&mut rt.stdin(), &mut rt.stdout(), size) {
+                let _ = eprintln!(rt; "{failure}");
+            }
         }
+        Making::OtherCount => tell(rt, &arguments::refusal()),
     }
 }
 
-// An argument that is longer than its 16 bytes reads as an empty one: it is no option and no count either.
-fn main() {
-    let mut option = [0u8; 16];
-    let option_end = os::arg(1, &mut option);
-    let mut count = [0u8; 16];
-    let count_end = os::arg(2, &mut count);
-    let asked = arguments::asked_for(os::arg_count(), &option[..option_end], &count[..count_end]);
-    match asked {
-        Asked::Unit(making) => make(making),
-        Asked::BadUsage => {
-            io::write_all(STDERR_FILENO, &arguments::usage());
+// An argument of the program. One that is not there, or is longer than the bytes lent for it, reads as an empty one: it is
+// no option and no count either.
+fn argument(rt: HostRuntime, i: usize, bytes: &mut [u8]) -> &[u8] {
+    let n = rt.arg(i, bytes).unwrap_or(0);
+    &bytes[..n]
+}
+
+// How many words the program was started with, its own name among them.
+fn word_count(rt: HostRuntime) -> usize {
+    let mut bytes = [0u8; 16];
+    for i in 0..usize::MAX {
+        if let Err(FillError::NotPresent) = rt.arg(i, &mut bytes) {
+            return i;
         }
+    }
+    usize::MAX
+}
+
+fn main(rt: HostRuntime) {
+    let mut option = [0u8; 16];
+    let mut count = [0u8; 16];
+    let option = argument(rt, 1, &mut option);
+    let count = argument(rt, 2, &mut count);
+    match arguments::asked_for(word_count(rt), option, count) {
+        Asked::Unit(making) => make(rt, making),
+        Asked::BadUsage => tell(rt, &arguments::usage()),
     }
 }
