@@ -2,6 +2,7 @@
 // Every function takes any counter and any index. A unit has the first so many of the list as its size says: past them there is nothing to
 // read. There is room for more, and what stands there is no matter.
 #![tactic(auto)]
+
 ghost use Rattle.std.specs.Prelude.{◌≡◌, map, ◌-◌, length, get_or, set, take, replicate};
 ghost use Rattle.rules.specs.Unit.{count_of, empty_cell, emptied};
 ghost use Rattle.rules.specs.Registers.{found_from, peeked, cell_stored, pad_stored};

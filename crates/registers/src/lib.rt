@@ -84,7 +84,7 @@ fn place_in(n: usize) -> Place
 }
 
 // What lies at a physical address for a unit of this size: "at or beyond L and not a register above" is nowhere.
-#[tactic(auto, unfolding(rules::specs::Registers::place_of, rules::specs::Choice::pick, rules::specs::Registers::registers, rules::specs::Registers::words_from, rules::specs::Registers::place_found))]
+#[tactic(auto, unfolding(rules::specs::Registers::place_of, rules::specs::Choice::pick))]
 pub fn place_of(size: Size, len: usize, at: usize) -> Place
     ensures { result ≡ place_of size len at }
 {

@@ -3,26 +3,25 @@ use Prim.Native.Nat.{ℕ, ◌+◌, ◌-◌, ◌*◌, ◌%◌}
 use mathlib.Core.Path.{◌≡◌, refl, sym, ap, ap₂, subst, ◌∙◌}
 use mathlib.Core.Bool.{Bool, true, false}
 use mathlib.Core.List.{List, map}
-use mathlib.Core.Logic.{◌≢◌}
 use native.Mathlib.Omega.{arith}
 use lib.Dec.{eqb}
 use lib.ListN.{get_or, set}
 use lib.Seq.{get_or-set_same}
 use borrow.Author.Tests.{eqb-true, ne_eqb, lt-ltb, le-ltb}
-use Rattle.rules.specs.Types.{Core, Maps, Cell, Size, Making, Cells, Unit, Call, Found, Associative, Part, Walk, Entry, Looked, Effect, Outcome, Ran}
+use Rattle.rules.specs.Types.{Core, Maps, Cell, Size, Making, Cells, Unit, Found, Associative, Part, Walk, Looked, Effect, Outcome, Ran}
 use Rattle.rules.specs.Choice.{pick}
 use Rattle.rules.specs.Memory.{Memory}
 use Rattle.rules.specs.Unit.{count_of, size_of, there, empty_cell, cell_at, emptied, clear_ktcs, clear_fetch, init_core, zero_unit}
 use Rattle.rules.specs.Status.{bit_of, packed}
-use Rattle.rules.specs.Registers.{found_from, peeked, cell_stored, pad_stored}
-use Rattle.rules.specs.Maps.{exec_zero, exec_zero_entry, walk_of, tag_of, tag_in, cell_of, stepped, filled, filled_by, missed, sought_in, looked, cell_forgotten, forgotten}
+use Rattle.rules.specs.Registers.{found_from, peeked, pad_stored}
+use Rattle.rules.specs.Maps.{exec_zero, exec_zero_entry, walk_of, tag_of, tag_in, cell_of, stepped, filled, filled_by, missed, sought_in, looked, forgotten}
 use Rattle.rules.specs.Program.{Prog, done, ask, peek, run}
 use Rattle.rules.specs.Order.{outcome}
 use Rattle.rules.specs.Answers.{shown_as, making_shown}
 use Rattle.rules.specs.Calls.{called, init_of, maps_after, cells_after, memory_after, settled, call_of, fresh}
 use Rattle.rules.proofs.Laws.Choices.{picked}
 use Rattle.rules.proofs.Laws.CellsLaws.{there-filled, there-stored, there-forgotten, there-emptied}
-use Rattle.rules.proofs.Promises.{FreshUnit, MadeOrRefused, CellByCounter, SizeStays, Alike, AlikeAfter, AbsentUnseen}
+use Rattle.rules.proofs.Promises.{FreshUnit, MadeOrRefused, CellByCounter, SizeStays, AlikeAfter, AbsentUnseen}
 
 -- Making -------------------------------------------------------------------------------------------------------------------
 

@@ -1,5 +1,5 @@
 -- KTCS: its bits, what a store into it does, and its error flags (01, "Registers").
-use Rattle.std.specs.Prelude.{ℕ, ◌+◌, ◌/◌, ◌%◌, Bool, true, false, not, ◌||◌, eqb}
+use Rattle.std.specs.Prelude.{ℕ, ◌+◌, ◌/◌, ◌%◌, Bool, false, not, ◌||◌, eqb}
 use Rattle.rules.specs.Types.{Ktcs, Part}
 use Rattle.rules.specs.Choice.{pick}
 

@@ -1,5 +1,4 @@
 -- The page that a map register names is there, and so is a part of memory.
-use Rattle.std.proofs.Common.{arith}
 use native.Mathlib.Nat.{add-sub_cancel_left}
 use borrow.Author.Tests.{le-leb}
 use Rattle.rules.specs.Choice.{pick}

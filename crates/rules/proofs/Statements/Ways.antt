@@ -6,7 +6,7 @@ use mathlib.Core.Path.{◌≡◌}
 use mathlib.Core.Logic.{◌≢◌}
 use lib.Dec.{eqb, ltb}
 use lib.ListN.{length, get_or}
-use Rattle.rules.specs.Types.{Ktcs, Core, Cells, Unit, Access, Call, Operating, Associative, Register, Target, Place, Entry, Due, Fault, Ruling, Answer, Effect, Job, Ran}
+use Rattle.rules.specs.Types.{Core, Cells, Unit, Access, Call, Operating, Associative, Register, Target, Place, Entry, Due, Fault, Ruling, Answer, Effect, Job, Ran}
 use Rattle.rules.specs.Memory.{Memory, store_word, store_byte}
 use Rattle.rules.specs.Unit.{with_fetch, init_core}
 use Rattle.rules.specs.Registers.{ktpc, ktps, place_of, part_of, merged}
