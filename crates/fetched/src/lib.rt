@@ -1,5 +1,6 @@
 // The fetch memory and step 4 of an access: the counts, KTIC, SS and DS (01, "Order in one access"; source 3.3.2.1).
 #![tactic(auto)]
+
 ghost use Rattle.std.specs.Prelude.{◌≡◌};
 ghost use Rattle.rules.specs.Choice.{pick};
 ghost use Rattle.rules.specs.Unit.{clear_fetch};

@@ -1,5 +1,6 @@
 // The walk of the maps, and the look-up through the cells (01, "From address to entry").
 #![tactic(auto)]
+
 ghost use Rattle.std.specs.Prelude.{◌≡◌};
 ghost use Rattle.rules.specs.Maps.{word_walk, followed, pointer_walk, exec_walk, user_walk, walk_of, entry_of};
 ghost use Rattle.rules.specs.Maps.{exec_zero_entry, tag_of, cell_of, filled_by, missed, sought_in, looked};

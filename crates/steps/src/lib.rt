@@ -1,5 +1,6 @@
 // The tests of steps 3 and 5 to 11 of an access, but for step 10, which is the register table's (01, "Order in one access").
 #![tactic(auto)]
+
 ghost use Rattle.std.specs.Prelude.{◌≡◌};
 ghost use Rattle.rules.specs.Steps.{odd_word, keys_of, judged, watches, public_page, guarded, forbidden_by, forbidden};
 

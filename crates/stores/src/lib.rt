@@ -1,5 +1,6 @@
 // What a store does to the core, and the effect that it leaves to be done to memory, the map registers or the cells.
 #![tactic(auto)]
+
 ghost use Rattle.std.specs.Prelude.{◌≡◌};
 ghost use Rattle.rules.specs.Order.{core_stored, operating_effect, associative_effect, memory_effect};
 

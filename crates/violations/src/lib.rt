@@ -1,5 +1,6 @@
 // What answers 4 to 10 do to the core: the flag, KTAD and KTDT, and the wait for SERVICE (01, "Sequences").
 #![tactic(auto)]
+
 ghost use Rattle.std.specs.Prelude.{◌≡◌, eqb};
 ghost use Rattle.rules.specs.Choice.{pick};
 ghost use Rattle.rules.specs.Sequences.{service_awaited, flagged, start_ended, data_lines, fault_data, address_kept, lines_kept, violated, timed_out};
