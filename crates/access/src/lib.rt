@@ -1,5 +1,6 @@
 // The whole access: steps 1 and 2, the sequence accesses, and on to the paged or the unpaged steps.
 #![tactic(auto)]
+
 ghost use Rattle.std.specs.Prelude.{◌≡◌};
 ghost use Rattle.rules.specs.Choice.{pick};
 ghost use Rattle.rules.specs.Program.{run};
@@ -8,7 +9,7 @@ ghost use Rattle.rules.specs.Order.{after_wait, accessed};
 use rules::{Access, Answer, Cells, Core, Due, Job, Maps, Ran};
 
 // Nothing is due: the steps go on unpaged, or, after step 4, paged.
-#[tactic(auto, unfolding(rules::specs::Order::after_wait, rules::specs::Choice::pick))]
+#[tactic(auto, unfolding(rules::specs::Order::after_wait, rules::specs::Choice::pick, rules::specs::Program::run))]
 fn stepped(m: &[u8], c: Core, r: Maps, q: Access, k: Cells) -> Ran
     ensures { result ≡ run m.now r (after_wait m.now k.size c r q Due.Steps) k }
 {
@@ -27,7 +28,7 @@ fn stepped(m: &[u8], c: Core, r: Maps, q: Access, k: Cells) -> Ran
 }
 
 // "2. The wait (2); a due sequence access ends here."
-#[tactic(auto, unfolding(rules::specs::Order::after_wait))]
+#[tactic(auto, unfolding(rules::specs::Order::after_wait, rules::specs::Program::run))]
 fn after_wait(m: &[u8], c: Core, r: Maps, q: Access, due: Due, k: Cells) -> Ran
     ensures { result ≡ run m.now r (after_wait m.now k.size c r q due) k }
 {
@@ -67,7 +68,7 @@ fn after_wait(m: &[u8], c: Core, r: Maps, q: Access, due: Due, k: Cells) -> Ran
 }
 
 // "1. Shape (answer 1).", and on. Memory is read alone: what is to be stored is in the outcome.
-#[tactic(auto, unfolding(rules::specs::Order::accessed, rules::specs::Choice::pick))]
+#[tactic(auto, unfolding(rules::specs::Order::accessed, rules::specs::Choice::pick, rules::specs::Program::run))]
 pub fn accessed(m: &[u8], c: Core, r: Maps, q: Access, k: Cells) -> Ran
     ensures { result ≡ run m.now r (accessed m.now k.size c r q) k }
 {

@@ -1,5 +1,6 @@
 // What the bench program's arguments ask for, and what it says where that is no unit.
 #![tactic(auto)]
+
 ghost use Rattle.std.specs.Prelude.{◌≡◌};
 ghost use Rattle.arguments.specs.Asked.{same, by_count, asked_for};
 ghost use Rattle.arguments.specs.Told.{refusal_text, usage_text};

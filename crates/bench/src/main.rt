@@ -1,6 +1,7 @@
 // The bench program: reads lines from standard input to its end, and prints what each call of the unit answers.
 // The work is that of `arguments` and `benchwork`; here is only what no contract can speak of, reading and writing.
 #![tactic(auto)]
+
 use arguments::Asked;
 use benchwork::Progress;
 use libc::{STDERR_FILENO, STDIN_FILENO, STDOUT_FILENO};

@@ -1,5 +1,6 @@
 // What one line of the bench program's input does, and what it prints.
 #![tactic(auto)]
+
 ghost use Rattle.std.specs.Prelude.{◌≡◌};
 ghost use Rattle.tally.specs.Tally.{Holds};
 ghost use Rattle.benchline.specs.Bench.{line_done};

@@ -1,5 +1,6 @@
 // The bench program's work, from bytes of input to bytes of output; reading and writing are left to the program.
 #![tactic(auto)]
+
 ghost use Rattle.std.specs.Prelude.{◌≡◌};
 ghost use Rattle.tally.specs.Tally.{Holds};
 ghost use Rattle.benchwork.specs.Bytes.{fresh_progress, stepped, ended};

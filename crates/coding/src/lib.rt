@@ -1,5 +1,6 @@
 // How a unit lies in the words that a host owns: whether words hold a unit, the unit that they hold, and the words of a unit.
 #![tactic(auto)]
+
 ghost use Rattle.std.specs.Prelude.{◌≡◌, ◌++◌, map, length, take, drop};
 ghost use Rattle.rules.specs.Maps.{tag_in};
 ghost use Rattle.coding.specs.Coding.{core_count, tags_place, last_place, unit_words, wait_number, wait_of, flag_number, size_in, is_unit, core_of, maps_of, list_of, cells_of, decoded, core_words, word_in, cells_words, coded};

@@ -1,5 +1,6 @@
 // How an access ends: the outcomes of the rules' order of steps, each with its answer, the unit's new core, and what is to be done.
 #![tactic(auto)]
+
 ghost use Rattle.std.specs.Prelude.{◌≡◌};
 ghost use Rattle.rules.specs.Program.{done};
 ghost use Rattle.rules.specs.Order.{refused, faulted, outer_fault, window_addr, inner_fault, fetched, flag_after, word_judged, unpaged_time_out, sequenced};

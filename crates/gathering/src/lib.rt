@@ -1,5 +1,6 @@
 // Lines gathered from the input byte by byte. No good line has more than 36 bytes, so 40 are enough to tell what a line asks for.
 #![tactic(auto)]
+
 ghost use Rattle.std.specs.Prelude.{◌≡◌};
 ghost use Rattle.gathering.specs.Gather.{nothing_yet, push_of, line_in};
 

@@ -1,6 +1,7 @@
 // The static library for hosts: the calls of the unit over words that the host owns, and what front panels and debuggers read.
 // No function requires anything: a call or a reading answers words that don't hold a unit by 70, and they stay as they are. The C header is host/include/kt11b.h.
 #![tactic(auto)]
+
 ghost use Rattle.std.specs.Prelude.{◌≡◌};
 ghost use Rattle.rules.specs.declared.Call.{Call};
 ghost use Rattle.rules.specs.Memory.{Memory};

@@ -1,5 +1,6 @@
 // One line of the bench program's input, without its newline: a letter and then octal numbers, with tabs between.
 #![tactic(auto)]
+
 ghost use Rattle.std.specs.Prelude.{◌≡◌, true};
 ghost use Rattle.fieldtext.specs.Cut.{fields_at};
 ghost use Rattle.fieldtext.specs.Reading.{Took};

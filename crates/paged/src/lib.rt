@@ -1,5 +1,6 @@
 // The paged access: steps 5 to 11, the window's inner access among them.
 #![tactic(auto)]
+
 ghost use Rattle.std.specs.Prelude.{◌≡◌};
 ghost use Rattle.rules.specs.Program.{run};
 ghost use Rattle.rules.specs.Choice.{pick};
@@ -9,7 +10,7 @@ ghost use Rattle.rules.specs.Order.{outer_fault, inner_target, inner_ruled, wind
 use rules::{Cells, Entry, Fault, Job, Place, Ran, Ruling, Target};
 
 // Step 10 of the window's inner access; "window on window: time-out at step 10".
-#[tactic(auto, unfolding(rules::specs::Order::inner_target))]
+#[tactic(auto, unfolding(rules::specs::Order::inner_target, rules::specs::Program::run))]
 fn inner_target(m: &[u8], j: Job, at: usize, pl: Place, k: Cells) -> Ran
     ensures { result ≡ run m.now j.maps (inner_target m.now j at pl) k }
 {
@@ -21,7 +22,7 @@ fn inner_target(m: &[u8], j: Job, at: usize, pl: Place, k: Cells) -> Ran
 }
 
 // What steps 6 to 8 say of the inner page's entry.
-#[tactic(auto, unfolding(rules::specs::Order::inner_ruled))]
+#[tactic(auto, unfolding(rules::specs::Order::inner_ruled, rules::specs::Program::run))]
 fn inner_ruled(m: &[u8], j: Job, ruling: Ruling, k: Cells) -> Ran
     ensures { result ≡ run m.now j.maps (inner_ruled m.now j ruling) k }
 {
@@ -37,7 +38,7 @@ fn inner_ruled(m: &[u8], j: Job, ruling: Ruling, k: Cells) -> Ran
 }
 
 // The window "goes on as a user access to KTAD, through steps 5-8 and 10 again and with no privacy step".
-#[tactic(auto, unfolding(rules::specs::Order::windowed, rules::specs::Choice::pick))]
+#[tactic(auto, unfolding(rules::specs::Order::windowed, rules::specs::Choice::pick, rules::specs::Program::run))]
 fn windowed(m: &[u8], j: Job, k: Cells) -> Ran
     ensures { result ≡ run m.now j.maps (windowed m.now j) k }
 {
@@ -67,7 +68,7 @@ fn paged_reached(m: &[u8], j: Job, at: usize, e: Entry, t: Target, k: Cells) -> 
 }
 
 // A paged access to the window goes on, but by fetch it is a time-out.
-#[tactic(auto, unfolding(rules::specs::Choice::pick))]
+#[tactic(auto, unfolding(rules::specs::Choice::pick, rules::specs::Program::run))]
 fn outer_window(m: &[u8], j: Job, k: Cells) -> Ran
     ensures { result ≡ run m.now j.maps (pick (is_fetch j.q) (outer_fault j Fault.NoTarget) (windowed m.now j)) k }
 {
@@ -79,7 +80,7 @@ fn outer_window(m: &[u8], j: Job, k: Cells) -> Ran
 }
 
 // "10. Target at or beyond L and not a register above (9)."
-#[tactic(auto, unfolding(rules::specs::Order::outer_target))]
+#[tactic(auto, unfolding(rules::specs::Order::outer_target, rules::specs::Program::run))]
 fn outer_target(m: &[u8], j: Job, at: usize, e: Entry, pl: Place, k: Cells) -> Ran
     ensures { result ≡ run m.now j.maps (outer_target m.now j at e pl) k }
 {
@@ -91,7 +92,7 @@ fn outer_target(m: &[u8], j: Job, at: usize, e: Entry, pl: Place, k: Cells) -> R
 }
 
 // What steps 6 to 9 say of the page's entry.
-#[tactic(auto, unfolding(rules::specs::Order::outer_ruled))]
+#[tactic(auto, unfolding(rules::specs::Order::outer_ruled, rules::specs::Program::run))]
 fn outer_ruled(m: &[u8], j: Job, e: Entry, ruling: Ruling, k: Cells) -> Ran
     ensures { result ≡ run m.now j.maps (outer_ruled m.now j e ruling) k }
 {
@@ -107,7 +108,7 @@ fn outer_ruled(m: &[u8], j: Job, e: Entry, ruling: Ruling, k: Cells) -> Ran
 }
 
 // Step 5, and step 6's question for the page's entry; j's core is as step 4 left it.
-#[tactic(auto, unfolding(rules::specs::Order::paged_from, rules::specs::Choice::pick))]
+#[tactic(auto, unfolding(rules::specs::Order::paged_from, rules::specs::Choice::pick, rules::specs::Program::run))]
 pub fn paged_from(m: &[u8], j: Job, k: Cells) -> Ran
     ensures { result ≡ run m.now j.maps (paged_from m.now j) k }
 {

@@ -1,5 +1,6 @@
 // What a front panel or a debugger reads of the words of a unit, and where a map page lies. Nothing here changes anything.
 #![tactic(auto)]
+
 ghost use Rattle.std.specs.Prelude.{◌≡◌, ◌≤◌};
 ghost use Rattle.rules.specs.Unit.{count_of, cell_at};
 ghost use Rattle.coding.specs.Coding.{decoded};

@@ -1,6 +1,7 @@
 // The usual access, done on the core alone: a page that a cell holds, in normal paging, with its target in memory.
 // An attempt that is not done says nothing; the access then goes by all its steps. Nothing here is a rule: it is there for speed.
 #![tactic(auto)]
+
 ghost use Rattle.std.specs.Prelude.{◌≡◌, true, false, length};
 ghost use Rattle.rules.specs.declared.Maps.{Maps};
 ghost use Rattle.rules.specs.declared.Target.{Target};

@@ -1,5 +1,6 @@
 // A reply of the library as one number: its data, its physical address and its answer.
 #![tactic(auto)]
+
 ghost use Rattle.std.specs.Prelude.{◌≡◌, ◌<◌};
 ghost use Rattle.rules.specs.Answers.{shown, making_shown};
 ghost use Rattle.replies.specs.Replies.{physical_bits, reply_word, told, no_unit, misshapen};

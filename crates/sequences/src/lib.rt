@@ -1,5 +1,6 @@
 // What the sequence accesses, an interrupt, a trap and INIT do to the core (01, "Sequences").
 #![tactic(auto)]
+
 ghost use Rattle.std.specs.Prelude.{◌≡◌};
 ghost use Rattle.rules.specs.Unit.{init_core};
 ghost use Rattle.rules.specs.Sequences.{status_stored, program_counter_stored, first_read_done, user_started, interrupted, is_trap, trap_twice, trap_taken, trapped, vector_listed, idle};

@@ -1,5 +1,6 @@
 // What the bench program counts, calls and lines, and the row of each call.
 #![tactic(auto)]
+
 ghost use Rattle.std.specs.Prelude.{◌≡◌};
 ghost use Rattle.tally.specs.Tally.{Holds, next, printed_as, call_row, line_counted, call_counted};
 

@@ -1,5 +1,6 @@
 // Reading at a target and storing there: what is done once all steps have passed.
 #![tactic(auto)]
+
 ghost use Rattle.std.specs.Prelude.{◌≡◌};
 ghost use Rattle.rules.specs.Program.{run};
 ghost use Rattle.rules.specs.Order.{source_in, word_from, word_read, stored_in, stored_at, transferred};

@@ -1,5 +1,6 @@
 // The calls of the unit: access, interrupt, trap and INIT, and the making of a fresh unit. Here alone memory, cells and map registers change.
 #![tactic(auto)]
+
 ghost use Rattle.std.specs.Prelude.{◌≡◌};
 ghost use Rattle.rules.specs.Memory.{Memory};
 ghost use Rattle.rules.specs.Program.{done};
@@ -128,7 +129,6 @@ pub fn access(u: Unit, m: &mut [u8], q: Access) -> Reply
 }
 
 // A device interrupts.
-#[tactic(auto, unfolding(rules::specs::Calls::call_of, rules::specs::Calls::called))]
 pub fn interrupt(u: Unit) -> Reply
     ensures { (m : Memory) → result ≡ (call_of m u Call.Interrupt).reply }
 {
@@ -139,7 +139,6 @@ pub fn interrupt(u: Unit) -> Reply
 }
 
 // The processor traps through a vector, a number of any size.
-#[tactic(auto, unfolding(rules::specs::Calls::call_of, rules::specs::Calls::called))]
 pub fn trap(u: Unit, vector: u64) -> Reply
     ensures { (m : Memory) → result ≡ (call_of m u (Call.Trap vector)).reply }
 {
@@ -150,7 +149,6 @@ pub fn trap(u: Unit, vector: u64) -> Reply
 }
 
 // The bus signal INIT, which is always accepted.
-#[tactic(auto, unfolding(rules::specs::Calls::call_of, rules::specs::Calls::called))]
 pub fn init(u: Unit) -> Reply
     ensures { (m : Memory) → result ≡ (call_of m u Call.Init).reply }
 {

@@ -1,5 +1,6 @@
 // The unpaged access: step 3, step 4, and step 10 at the address as it stands.
 #![tactic(auto)]
+
 ghost use Rattle.std.specs.Prelude.{◌≡◌};
 ghost use Rattle.rules.specs.Program.{run};
 ghost use Rattle.rules.specs.Order.{unpaged_reached, unpaged_target, unpaged_from};
@@ -20,7 +21,7 @@ fn unpaged_reached(m: &[u8], j: Job, at: usize, t: Target, k: Cells) -> Ran
 }
 
 // "10. Target at or beyond L and not a register above (9)."; the window unpaged is a time-out.
-#[tactic(auto, unfolding(rules::specs::Order::unpaged_target))]
+#[tactic(auto, unfolding(rules::specs::Order::unpaged_target, rules::specs::Program::run))]
 fn unpaged_target(m: &[u8], j: Job, at: usize, pl: Place, k: Cells) -> Ran
     ensures { result ≡ run m.now j.maps (unpaged_target m.now j at pl) k }
 {
@@ -32,7 +33,7 @@ fn unpaged_target(m: &[u8], j: Job, at: usize, pl: Place, k: Cells) -> Ran
 }
 
 // "3. Unpaged odd word (3).", then step 4.
-#[tactic(auto, unfolding(rules::specs::Order::unpaged_from, rules::specs::Choice::pick))]
+#[tactic(auto, unfolding(rules::specs::Order::unpaged_from, rules::specs::Choice::pick, rules::specs::Program::run))]
 pub fn unpaged_from(m: &[u8], c: Core, r: Maps, q: Access, k: Cells) -> Ran
     ensures { result ≡ run m.now r (unpaged_from m.now k.size c r q) k }
 {
