@@ -18,7 +18,7 @@ use Rattle.rules.proofs.Demand3.Ranges.{call_in_range}
 use Rattle.coding.specs.Coding.{unit_words, is_unit, decoded, coded}
 use Rattle.coding.proofs.Stays.{decoded_in_range}
 use Rattle.coding.proofs.Room.{RoomAside, is_unit_same, decoded-alike, coded-aside}
-use Rattle.replies.specs.Replies.{reply_word, no_unit}
+use Rattle.replies.specs.Replies.{reply_word}
 use Rattle.kt11b.specs.Doors.{words_after, memory_after, reply_after}
 
 -- a call of either gives the same reply and the same memory, and leaves words that differ at most there again

@@ -60,7 +60,7 @@ fn by_steps(unit: &mut [u16; coding::WORDS], memory: &mut [u8], q: Access) -> u6
 }
 
 // An access as it comes: the usual one on the core alone, any other by all its steps.
-#[tactic(auto, unfolding(coding::specs::Coding::decoded))]
+#[tactic(auto, unfolding(crate::specs::Doors::words_after, crate::specs::Doors::memory_after, crate::specs::Doors::reply_after, rules::specs::Choice::pick))]
 fn by_sort(unit: &mut [u16; coding::WORDS], memory: &mut [u8], q: Access) -> u64
     ensures words { unit.new ≡ words_after memory.old unit.old (Call.Access q) }
     ensures memory { memory.new ≡ memory_after memory.old unit.old (Call.Access q) }
@@ -114,6 +114,7 @@ pub extern "C" fn kt11b_access(
     by_sort(unit, memory, q)
 }
 
+#[tactic(auto, unfolding(crate::specs::Doors::words_after, crate::specs::Doors::reply_after, rules::specs::Choice::pick))]
 #[unsafe(no_mangle)]
 pub extern "C" fn kt11b_interrupt(unit: &mut [u16; coding::WORDS]) -> u64
     ensures words { (m : Memory) → unit.new ≡ words_after m unit.old Call.Interrupt }
@@ -127,6 +128,7 @@ pub extern "C" fn kt11b_interrupt(unit: &mut [u16; coding::WORDS]) -> u64
     replies::no_unit()
 }
 
+#[tactic(auto, unfolding(crate::specs::Doors::words_after, crate::specs::Doors::reply_after, rules::specs::Choice::pick))]
 #[unsafe(no_mangle)]
 pub extern "C" fn kt11b_trap(unit: &mut [u16; coding::WORDS], vector: u64) -> u64
     ensures words { (m : Memory) → unit.new ≡ words_after m unit.old (Call.Trap vector) }
@@ -140,6 +142,7 @@ pub extern "C" fn kt11b_trap(unit: &mut [u16; coding::WORDS], vector: u64) -> u6
     replies::no_unit()
 }
 
+#[tactic(auto, unfolding(crate::specs::Doors::words_after, crate::specs::Doors::reply_after, rules::specs::Choice::pick))]
 #[unsafe(no_mangle)]
 pub extern "C" fn kt11b_init(unit: &mut [u16; coding::WORDS]) -> u64
     ensures words { (m : Memory) → unit.new ≡ words_after m unit.old Call.Init }

@@ -1,8 +1,6 @@
 -- Step 4 of a usual access: what it comes to where nothing is waited for, FCN is 2, no flag is set and the instruction under way is plain.
-use Prim.Native.Nat.{ℕ}
-use mathlib.Core.Path.{◌≡◌, refl, sym, ap, ◌∙◌}
-use mathlib.Core.Bool.{Bool, true, false, ◌&&◌, or-false}
-use lib.Dec.{eqb}
+use mathlib.Core.Path.{◌≡◌, refl, ap}
+use mathlib.Core.Bool.{Bool, true, false, or-false}
 use borrow.Author.Tests.{eqb-true}
 use Rattle.rules.specs.declared.Kind.{Kind}
 use Rattle.rules.specs.declared.Wait.{Wait}
@@ -11,7 +9,7 @@ use Rattle.rules.specs.declared.Access.{Access}
 use Rattle.rules.specs.Choice.{pick}
 use Rattle.rules.specs.Unit.{with_ktcs, with_kept, with_fetch}
 use Rattle.rules.specs.Status.{flags_clear, with_states}
-use Rattle.rules.specs.Fetched.{kind_of, is_fetch, counted, normal, destination_only, source_by, destination_by, source_set, destination_set, states_marked, instruction_noted, marked, noted}
+use Rattle.rules.specs.Fetched.{kind_of, is_fetch, counted, normal, source_by, destination_by, source_set, destination_set, states_marked, instruction_noted, marked, noted}
 use Rattle.rules.specs.Steps.{watches}
 use Rattle.rules.proofs.Laws.Choices.{both_true}
 use Rattle.quick.specs.Usual.{is_idle, is_plain, calm, fetch_noted, other_fetch, other_noted}

@@ -1,7 +1,7 @@
 -- What each stage of an attempt owes, from what the next one owes.
 use Prim.Native.Nat.{ℕ, ◌<◌}
 use mathlib.Core.Path.{◌≡◌, refl, sym, ap, ◌∙◌}
-use mathlib.Core.Bool.{Bool, true, false, not, ◌&&◌}
+use mathlib.Core.Bool.{Bool, true, false, not}
 use native.Mathlib.Omega.{arith}
 use lib.Dec.{ltb}
 use lib.ListN.{length}
@@ -12,7 +12,6 @@ use Rattle.rules.specs.declared.Maps.{Maps}
 use Rattle.rules.specs.declared.Cells.{Cells}
 use Rattle.rules.specs.declared.Access.{Access}
 use Rattle.rules.specs.declared.Answer.{Answer}
-use Rattle.rules.specs.declared.Due.{Due}
 use Rattle.rules.specs.declared.Entry.{Entry}
 use Rattle.rules.specs.declared.Found.{Found}
 use Rattle.rules.specs.declared.Looked.{Looked}
@@ -36,7 +35,7 @@ use Rattle.rules.proofs.Laws.Choices.{both_true}
 use Rattle.rules.proofs.Laws.RunLaws.{run-done, run-ask}
 use Rattle.quick.specs.declared.Attempt.{Attempt}
 use Rattle.quick.specs.Usual.{calm, usual, fetch_noted, other_noted, Quiet, Sound}
-use Rattle.quick.proofs.Noted.{IsCalm, is_calm, noted-fetch, noted_other, noted-um, noted-watches}
+use Rattle.quick.proofs.Noted.{is_calm, noted-fetch, noted_other, noted-um, noted-watches}
 
 abbrev job : Access → Core → Cells → Maps → Job
 job q c k r = record { q = q; core = c; maps = r; size = k.size }

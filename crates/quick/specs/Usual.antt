@@ -1,26 +1,20 @@
 -- The usual access: nothing waited for, normal paging, no error flag, and an instruction under way that marks neither SS nor DS by itself.
-use Rattle.std.specs.Prelude.{ℕ, ◌≡◌, Bool, true, false, not, ◌&&◌, ◌||◌, eqb, length, set}
+use Rattle.std.specs.Prelude.{ℕ, ◌≡◌, Bool, true, false, not, ◌&&◌, ◌||◌, eqb, set}
 use Rattle.rules.specs.declared.Kind.{Kind}
 use Rattle.rules.specs.declared.Wait.{Wait}
 use Rattle.rules.specs.declared.Fetch.{Fetch}
 use Rattle.rules.specs.declared.Core.{Core}
 use Rattle.rules.specs.declared.Maps.{Maps}
-use Rattle.rules.specs.declared.Cell.{Cell}
 use Rattle.rules.specs.declared.Cells.{Cells}
 use Rattle.rules.specs.declared.Access.{Access}
-use Rattle.rules.specs.declared.Entry.{Entry}
-use Rattle.rules.specs.declared.Target.{Target}
 use Rattle.rules.specs.declared.Effect.{Effect}
-use Rattle.rules.specs.declared.Outcome.{Outcome}
-use Rattle.rules.specs.declared.Ran.{Ran}
 use Rattle.rules.specs.Choice.{pick}
 use Rattle.rules.specs.Memory.{Memory}
-use Rattle.rules.specs.Registers.{ktic, place_of}
+use Rattle.rules.specs.Registers.{ktic}
 use Rattle.rules.specs.Status.{flags_clear, with_states}
-use Rattle.rules.specs.Fetched.{kind_of, is_dato, one_more, noted}
-use Rattle.rules.specs.Steps.{well_shaped, odd_word, judged, watches}
+use Rattle.rules.specs.Fetched.{kind_of, is_dato, one_more}
+use Rattle.rules.specs.Steps.{well_shaped, odd_word}
 use Rattle.rules.specs.Program.{Prog, run}
-use Rattle.rules.specs.Order.{read_at, word_judged, outer_target, outer_ruled, accessed}
 use Rattle.rules.specs.Calls.{maps_after, cells_after}
 use Rattle.quick.specs.declared.Attempt.{Attempt}
 

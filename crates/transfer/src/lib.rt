@@ -80,7 +80,7 @@ fn stored_at(j: Job, p: Part, at: usize, t: Target) -> Outcome
 }
 
 // A read by operations 0 and 1, or a store by 2 and 3.
-#[tactic(auto, unfolding(rules::specs::Order::transferred, rules::specs::Order::outcome, rules::specs::Choice::pick))]
+#[tactic(auto, unfolding(rules::specs::Order::transferred, rules::specs::Order::outcome, rules::specs::Choice::pick, rules::specs::Program::run, rules::specs::Order::read_at, rules::specs::Order::read_from, rules::specs::Order::source_at, rules::specs::Order::word_read, rules::specs::Order::word_from))]
 pub fn transferred(m: &[u8], j: Job, at: usize, t: Target, k: Cells) -> Ran
     ensures { result ≡ run m.now j.maps (transferred m.now j at t) k }
 {

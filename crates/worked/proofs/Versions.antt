@@ -83,7 +83,7 @@ seen_by f m u (c ∷ cs) = seen_in (call_by f m u c) ∷ seen_by f (call_by f m 
 pub rules_are_a_version : (m : Memory) (u : Unit) (cs : List Call) → seen_by by_the_rules m u cs ≡ seen_along m u cs
 unfolding seen_along call_of settled
 rules_are_a_version m u [] = refl
-rules_are_a_version m u (c ∷ cs) = ap (λ (l : List Seen). seen_in (call_of m u c) ∷ l) (rules_are_a_version _ _ cs)
+rules_are_a_version m u (c ∷ cs) = ap (λ (l : List Seen). seen_in (call_of m u c) ∷ l) (rules_are_a_version (call_of m u c).memory (call_of m u c).reply.unit cs)
 
 -- Version one ------------------------------------------------------------------------------------------------------------------
 

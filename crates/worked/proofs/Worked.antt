@@ -4,7 +4,6 @@ use mathlib.Core.Path.{◌≡◌, refl}
 use mathlib.Core.List.{List, [], ◌∷◌, ◌++◌, map}
 use lib.ListN.{replicate}
 use Rattle.rules.specs.declared.Unit.{Unit}
-use Rattle.rules.specs.declared.Access.{Access}
 use Rattle.rules.specs.declared.Call.{Call}
 use Rattle.rules.specs.declared.Physical.{Physical}
 use Rattle.rules.specs.Memory.{Memory, store_word}
