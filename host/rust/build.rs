@@ -17,7 +17,7 @@ fn main() {
     println!("cargo:rerun-if-changed={}", library.display());
     if !library.is_file() {
         eprintln!("kt11b: {} is not there.", library.display());
-        eprintln!("kt11b: build it in the project's folder by: rt staticlib kt11b");
+        eprintln!("kt11b: build it in the project's folder by: host/build");
         eprintln!("kt11b: or name the folder that holds {LIBRARY} in KT11B_LIB_DIR.");
         exit(1);
     }
@@ -25,7 +25,7 @@ fn main() {
     println!("cargo:rustc-link-lib=static=kt11b");
 }
 
-/// The folder KT11B_LIB_DIR names, or else the one `rt staticlib` writes to in the project that this crate is part of.
+/// The folder KT11B_LIB_DIR names, or else the one `host/build` writes to in the project that this crate is part of.
 fn library_folder() -> PathBuf {
     if let Some(folder) = env::var_os("KT11B_LIB_DIR") {
         return PathBuf::from(folder);
