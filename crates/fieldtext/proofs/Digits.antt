@@ -77,7 +77,7 @@ module _ (base most : ℕ) (f : List ℕ) where
 
 module _ (f : List ℕ) where
   -- a field whose digits say a value is a number by that value
-  number_worth : (v : ℕ) → Worth v ≡ digits_of 8 6 f → number_of f ≡ pick (ltb v 65536) (Value v) NotOne
+  pub number_worth : (v : ℕ) → Worth v ≡ digits_of 8 6 f → number_of f ≡ pick (ltb v 65536) (Value v) NotOne
   unfolding digits_of number_of is_number worth pick
   number_worth v = go (are_digits 8 6 f)
     where
@@ -86,6 +86,7 @@ module _ (f : List ℕ) where
       go true e = let w : v ≡ worth_from 8 0 f = cc in simp w
       go false e = cc
 
+  -- the same where the test is decided: a value of 16 bits, and one beyond
   pub number_fits : (v : ℕ) → Worth v ≡ digits_of 8 6 f → v < 65536 → number_of f ≡ Value v
   unfolding pick
   number_fits v e h = simp (number_worth v e, lt-ltb _ _ h)
