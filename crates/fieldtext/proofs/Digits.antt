@@ -11,7 +11,9 @@ use lib.ListN.{length, get_or, drop, drop_of_length-le}
 use lib.Dec.{ltb}
 use borrow.Author.Tests.{lt-ltb, le-ltb, ltb-true}
 use Rattle.fieldtext.specs.Number.{is_digit, all_digits, worth, worth_from, are_digits, digits_of, is_number, number_of}
+use Rattle.fieldtext.specs.declared.Figures.{Figures}
 use Rattle.fieldtext.specs.declared.Figures.TheVariants.{Worth, Other}
+use Rattle.fieldtext.specs.declared.Number.{Number}
 use Rattle.fieldtext.specs.declared.Number.TheVariants.{Value, NotOne}
 use Rattle.fieldtext.proofs.Scan.{at_place}
 
@@ -86,15 +88,6 @@ module _ (f : List ℕ) where
       go true e = let w : v ≡ worth_from 8 0 f = cc in simp w
       go false e = cc
 
-  -- the same where the test is decided: a value of 16 bits, and one beyond
-  pub number_fits : (v : ℕ) → Worth v ≡ digits_of 8 6 f → v < 65536 → number_of f ≡ Value v
-  unfolding pick
-  number_fits v e h = simp (number_worth v e, lt-ltb _ _ h)
-
-  pub number_large : (v : ℕ) → Worth v ≡ digits_of 8 6 f → 65536 ≤ v → number_of f ≡ NotOne
-  unfolding pick
-  number_large v e h = simp (number_worth v e, le-ltb _ _ h)
-
   pub number_other : Other ≡ digits_of 8 6 f → number_of f ≡ NotOne
   unfolding digits_of number_of is_number worth pick
   number_other = go (are_digits 8 6 f)
@@ -103,3 +96,15 @@ module _ (f : List ℕ) where
           → pick (t && ltb (worth_from 8 0 f) 65536) (Value (worth_from 8 0 f)) NotOne ≡ NotOne
       go true e = cc
       go false e = refl
+
+-- what a field's digits come to as a number, and that a field is that
+abbrev pub number_by : Figures → Number
+number_by (Worth v) = pick (ltb v 65536) (Value v) NotOne
+number_by Other = NotOne
+
+pub number_by_digits : (f : List ℕ) → number_of f ≡ number_by (digits_of 8 6 f)
+number_by_digits f = go (digits_of 8 6 f) refl
+  where
+    go : (d : Figures) → d ≡ digits_of 8 6 f → number_of f ≡ number_by d
+    go (Worth v) e = number_worth f v e
+    go Other e = number_other f e

@@ -83,7 +83,7 @@ fn read_digits(bytes: &[u8], base: u64, most: usize) -> Figures
 }
 
 // "Numbers are 1-6 octal digits up to 177777."
-#[tactic(auto, using(crate::proofs::Digits::number_fits, crate::proofs::Digits::number_large, crate::proofs::Digits::number_other))]
+#[tactic(auto, using(crate::proofs::Digits::number_by_digits), unfolding(rules::specs::Choice::pick))]
 pub fn octal(field: &[u8]) -> Number
     ensures { result ≡ number_of field.now }
 {

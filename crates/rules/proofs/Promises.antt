@@ -28,11 +28,11 @@ use Rattle.rules.specs.Runs.{Turn, unit_after, seen_along, Station, station_afte
 abbrev pub job : Unit → Access → Job
 job u q = record { q = q; core = noted u.core q; maps = u.maps; size = u.cells.size }
 
--- step 6 for the page of the access's own address: its entry, and the cells after the look_up
+-- step 6 for the page of the access's own address: its entry, and the cells after the look-up
 abbrev pub outer : Memory → Unit → Access → Looked
 outer m u q = looked m u.maps (job u q).core.ktcs.um (page_of q.addr) u.cells
 
--- step 6 again, for the page that a window goes on to: a user's, by the cells that the first look_up left
+-- step 6 again, for the page that a window goes on to: a user's, by the cells that the first look-up left
 abbrev pub inner : Memory → Unit → Access → Looked
 inner m u q = looked m u.maps true (page_of (window_addr (job u q))) (outer m u q).cells
 
@@ -238,7 +238,7 @@ pub record GoesInside (m : Memory) (u : Unit) (q : Access) : Type 0 where
   pub no_fetch : is_fetch q ≡ false
   pub even : odd_word q.width (get_or u.core.kept ktad 0) ≡ false
 
--- "also in the window's inner walk": of KTAD's page as a user's, by the cells that the outer look_up left
+-- "also in the window's inner walk": of KTAD's page as a user's, by the cells that the outer look-up left
 pub record InnerRanOff (m : Memory) (u : Unit) (q : Access) : Type 0 where
   pub inside : GoesInside m u q
   pub ran_off : RanOff m u.maps (outer m u q).cells true (page_of (get_or u.core.kept ktad 0))
@@ -609,7 +609,7 @@ pub record UnitFit (n : ℕ) (u : Unit) : Type 0 where
 abbrev pub AlwaysFit : Type 0
 AlwaysFit = (s : Size) (ts : List Turn) → UnitFit (count_of s) (unit_after (fresh s) ts)
 
--- Exec page zero stands in no cell: its tag is the one that means empty, which no other page has, and a look_up of it gives physical page M of
+-- Exec page zero stands in no cell: its tag is the one that means empty, which no other page has, and a look-up of it gives physical page M of
 -- KTEM whatever the cells hold, and leaves them.
 pub record ExecZeroUncelled : Type 0 where
   pub tag-zero : (user : Bool) (p : ℕ) → exec_zero user p ≡ true → tag_of user p ≡ 0
