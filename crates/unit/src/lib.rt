@@ -129,6 +129,7 @@ pub fn access(u: Unit, m: &mut [u8], q: Access) -> Reply
 }
 
 // A device interrupts.
+#[tactic(auto, unfolding(rules::specs::Calls::call_of, rules::specs::Calls::called, rules::specs::Program::run))]
 pub fn interrupt(u: Unit) -> Reply
     ensures { (m : Memory) → result ≡ (call_of m u Call.Interrupt).reply }
 {
@@ -139,6 +140,7 @@ pub fn interrupt(u: Unit) -> Reply
 }
 
 // The processor traps through a vector, a number of any size.
+#[tactic(auto, unfolding(rules::specs::Calls::call_of, rules::specs::Calls::called, rules::specs::Program::run))]
 pub fn trap(u: Unit, vector: u64) -> Reply
     ensures { (m : Memory) → result ≡ (call_of m u (Call.Trap vector)).reply }
 {
@@ -149,6 +151,7 @@ pub fn trap(u: Unit, vector: u64) -> Reply
 }
 
 // The bus signal INIT, which is always accepted.
+#[tactic(auto, unfolding(rules::specs::Calls::call_of, rules::specs::Calls::called, rules::specs::Program::run))]
 pub fn init(u: Unit) -> Reply
     ensures { (m : Memory) → result ≡ (call_of m u Call.Init).reply }
 {

@@ -1,9 +1,0 @@
--- An interrupt ends as its rule says, over any memory.
-use Rattle.std.proofs.Common.{◌∙◌, sym}
-use Rattle.rules.specs.Calls.{call_of, called}
-use Rattle.rules.proofs.Laws.RunLaws.{run-done}
-use Rattle.unit.proofs.interrupt.Goals as goal
-
-pub returns : goal.returns
-unfolding call_of called
-returns c = λ m. c.unit_after.ensures m ∙ simp (c.ended.ensures, sym c.interrupt_of.ensures, run-done)
