@@ -2,78 +2,45 @@
 #![tactic(auto)]
 
 ghost use Rattle.std.specs.Prelude.{◌≡◌};
-ghost use Rattle.rules.specs.Choice.{pick};
 ghost use Rattle.rules.specs.Program.{run};
-ghost use Rattle.rules.specs.Order.{after_wait, accessed};
+ghost use Rattle.rules.specs.Order.{accessed};
 
-use rules::{Access, Answer, Cells, Core, Due, Job, Maps, Ran};
+use rules::{Access, Answer, Due, Ran, Unit};
+use transfer::Stage;
 
-// Nothing is due: the steps go on unpaged, or, after step 4, paged.
-#[tactic(auto, unfolding(rules::specs::Order::after_wait, rules::specs::Choice::pick, rules::specs::Program::run))]
-fn stepped(m: &[u8], c: Core, r: Maps, q: Access, k: Cells) -> Ran
-    ensures { result ≡ run m.now r (after_wait m.now k.size c r q Due.Steps) k }
+// "1. Shape (answer 1).", "2. The wait (2); a due sequence access ends here.", and on: where nothing is due, the steps go on unpaged, or, after
+// step 4, paged. Memory is read alone: what is to be stored is in the outcome. The stage is made
+// from memory and unit only where step 4 is come to, for speed.
+#[tactic(auto, unfolding(transfer::specs::Stage::ran, rules::specs::Order::accessed, rules::specs::Order::after_wait, rules::specs::Choice::pick, rules::specs::Program::run))]
+pub fn accessed(m: &[u8], u: &Unit, q: Access) -> Ran
+    ensures { result ≡ run m.now u.now.maps (accessed m.now u.now.cells.size u.now.core u.now.maps q) u.now.cells }
 {
-    if pages::unpaged(c.ktcs.fcn, q.state) {
-        return unpaged::unpaged_from(m, c, r, q, k);
-    }
-    let noted = fetched::noted(c, q);
-    let size = k.size;
-    let j = Job {
-        q,
-        core: noted,
-        maps: r,
-        size,
+    let core = u.core;
+    let outcome = if shape::well_shaped(m.len(), q) {
+        match shape::due_of(core, q) {
+            Due::Steps if pages::unpaged(core.ktcs.fcn, q.state) => {
+                return unpaged::unpaged_from(m, u, q);
+            }
+            Due::Steps => return paged::paged_from(&Stage::noted(m, u, q)),
+            Due::OutOfTurn => endings::refused(core, Answer::NotDue),
+            Due::StatusStore => endings::sequenced(0, sequences::status_stored(core, q.datum)),
+            Due::ProgramCounterStore => {
+                endings::sequenced(0, sequences::program_counter_stored(core, q.addr, q.datum))
+            }
+            Due::FirstRead => {
+                let given = registers::kept_word(&core.kept, registers::KTPC);
+                endings::sequenced(given, sequences::first_read_done(core))
+            }
+            Due::SecondRead => {
+                let given = registers::kept_word(&core.kept, registers::KTPS);
+                endings::sequenced(given, sequences::user_started(core))
+            }
+        }
+    } else {
+        endings::refused(core, Answer::Misshapen)
     };
-    paged::paged_from(m, j, k)
-}
-
-// "2. The wait (2); a due sequence access ends here."
-#[tactic(auto, unfolding(rules::specs::Order::after_wait, rules::specs::Program::run))]
-fn after_wait(m: &[u8], c: Core, r: Maps, q: Access, due: Due, k: Cells) -> Ran
-    ensures { result ≡ run m.now r (after_wait m.now k.size c r q due) k }
-{
-    let kept = c.kept;
-    match due {
-        Due::Steps => stepped(m, c, r, q, k),
-        Due::OutOfTurn => transfer::ended(endings::refused(c, Answer::NotDue), k),
-        Due::StatusStore => transfer::ended(
-            endings::sequenced(0, sequences::status_stored(c, q.datum)),
-            k,
-        ),
-        Due::ProgramCounterStore => {
-            transfer::ended(
-                endings::sequenced(0, sequences::program_counter_stored(c, q.addr, q.datum)),
-                k,
-            )
-        }
-        Due::FirstRead => {
-            transfer::ended(
-                endings::sequenced(
-                    registers::kept_word(kept, registers::KTPC),
-                    sequences::first_read_done(c),
-                ),
-                k,
-            )
-        }
-        Due::SecondRead => {
-            transfer::ended(
-                endings::sequenced(
-                    registers::kept_word(kept, registers::KTPS),
-                    sequences::user_started(c),
-                ),
-                k,
-            )
-        }
+    Ran {
+        outcome,
+        cells: u.cells,
     }
-}
-
-// "1. Shape (answer 1).", and on. Memory is read alone: what is to be stored is in the outcome.
-#[tactic(auto, unfolding(rules::specs::Order::accessed, rules::specs::Choice::pick, rules::specs::Program::run))]
-pub fn accessed(m: &[u8], c: Core, r: Maps, q: Access, k: Cells) -> Ran
-    ensures { result ≡ run m.now r (accessed m.now k.size c r q) k }
-{
-    if shape::well_shaped(m.len(), q) {
-        return after_wait(m, c, r, q, shape::due_of(c, q), k);
-    }
-    transfer::ended(endings::refused(c, Answer::Misshapen), k)
 }

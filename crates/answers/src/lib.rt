@@ -1,20 +1,21 @@
 // What the host sees of an answer: its number, its data and its physical address (01, "What comes back").
+// By functions: `Answer` and `Returned` stand in `rules`, which holds no code, and so no `From`.
 #![tactic(auto)]
 
-ghost use Rattle.std.specs.Prelude.{◌≡◌};
+ghost use Rattle.std.specs.Prelude.{◌≡◌, None};
 ghost use Rattle.rules.specs.Answers.{shown_as, fault_shown, shown};
 
-use rules::{Answer, Fault, Physical, Returned};
+use rules::{Answer, Fault, Returned};
 
 // An answer with no data and no physical address.
 #[tactic(auto, unfolding(rules::specs::Answers::shown_as))]
 fn bare(number: u16) -> Returned
-    ensures { result ≡ shown_as number 0 Physical.Nowhere }
+    ensures { result ≡ shown_as number 0 None }
 {
     Returned {
         number,
         datum: 0,
-        physical: Physical::Nowhere,
+        physical: None,
     }
 }
 
@@ -33,7 +34,7 @@ pub fn fault_shown(f: Fault) -> Returned
         Fault::Forbidden(word, at) => Returned {
             number: 8,
             datum: word,
-            physical: Physical::At(at),
+            physical: Some(at),
         },
     }
 }
@@ -47,12 +48,12 @@ pub fn shown(a: Answer) -> Returned
         Answer::Done(word, at) => Returned {
             number: 0,
             datum: word,
-            physical: Physical::At(at),
+            physical: Some(at),
         },
         Answer::Taken(word) => Returned {
             number: 0,
             datum: word,
-            physical: Physical::Nowhere,
+            physical: None,
         },
         Answer::Misshapen => bare(1),
         Answer::NotDue => bare(2),

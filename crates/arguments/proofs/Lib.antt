@@ -1,3 +1,2 @@
--- The laws of comparing bytes, and what some arguments ask for.
-pub mod Bytes
+-- What some arguments ask for.
 pub mod Worked

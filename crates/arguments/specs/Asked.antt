@@ -1,27 +1,25 @@
 -- What the arguments ask for: "The count is an argument of the program `bench` (its absence is 8), and it is the proved `size_of` that refuses." (T-08)
-use Rattle.std.specs.Prelude.{ℕ, Bool, true, false, ◌&&◌, List, [], ◌∷◌, eqb, ltb}
+use Rattle.std.specs.Prelude.{ℕ, ◌&&◌, List, Option, Some, None, Result, Err, eqb, ltb, bytes_eq}
+use Rattle.std.specs.Option.{ok_or}
 use Rattle.rules.specs.Choice.{pick}
+use Rattle.rules.specs.declared.Size.{Size}
 use Rattle.rules.specs.Unit.{size_of}
 use Rattle.fieldtext.specs.Number.{decimal_of}
-use Rattle.fieldtext.specs.declared.Figures.{Figures}
-use Rattle.fieldtext.specs.declared.Figures.TheVariants.{Worth, Other}
 use Rattle.arguments.specs.Text.{option_text}
-use Rattle.arguments.specs.declared.Asked.{Asked}
-use Rattle.arguments.specs.declared.Asked.TheVariants.{Unit, BadUsage}
+use Rattle.arguments.specs.declared.ArgumentError.{ArgumentError}
+use Rattle.arguments.specs.declared.ArgumentError.TheVariants.{OtherCount, BadUsage}
 
-unfoldable pub same : List ℕ → List ℕ → Bool
-same [] [] = true
-same [] (b ∷ t) = false
-same (a ∷ s) [] = false
-same (a ∷ s) (b ∷ t) = eqb a b && same s t
+-- a unit with n cells, if one is made with them
+unfoldable pub with_cells : ℕ → Result Size ArgumentError
+with_cells n = ok_or (size_of n) OtherCount
 
 -- "anything but such digits is bad usage" (T-08)
-unfoldable pub by_count : Figures → Asked
-by_count (Worth n) = Unit (size_of n)
-by_count Other = BadUsage
+unfoldable pub by_count : Option ℕ → Result Size ArgumentError
+by_count (Some n) = with_cells n
+by_count None = Err BadUsage
 
 -- By how many words the program was started with, its own name among them, and the two after its name: "`--cells` without a value, twice, .. is bad
 -- usage" (T-08)
-unfoldable pub asked_for : ℕ → List ℕ → List ℕ → Asked
+unfoldable pub asked_for : ℕ → List ℕ → List ℕ → Result Size ArgumentError
 asked_for words option count =
-    pick (ltb words 2) (Unit (size_of 8)) (pick (eqb words 3 && same option option_text) (by_count (decimal_of count)) BadUsage)
+    pick (ltb words 2) (with_cells 8) (pick (eqb words 3 && bytes_eq option option_text) (by_count (decimal_of count)) (Err BadUsage))

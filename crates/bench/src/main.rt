@@ -2,75 +2,53 @@
 // The work is that of `arguments` and `benchwork`; here is only what no contract can speak of, reading and writing.
 #![tactic(auto)]
 
-use arguments::Asked;
+use arguments::ArgumentError;
 use benchwork::Progress;
-use rowtext::Text;
-use rules::{Making, Size};
+use rules::Size;
 use std::env::{Env, FillError};
 use std::fmt::{Display, Formatter};
 use std::io::{Read, Write};
 use std::{fmt, io};
 
-// What ends the work before the input does.
+// What ends the work before the input does, or before it begins. (What it prints is written out: the crates are written over std alone.)
 #[derive(Drop)]
 enum Failure {
+    Arguments(ArgumentError),
     Input(io::Error),
     Output(io::Error),
+}
+
+impl From<ArgumentError> for Failure {
+    fn from(error: ArgumentError) -> Self {
+        Failure::Arguments(error)
+    }
 }
 
 impl Display for Failure {
     fn fmt<W: fmt::Write>(&self, f: &mut Formatter<W>) -> fmt::Result {
         match self {
-            Failure::Input(e) => write!(f, "bench: standard input cannot be read: {e}"),
-            Failure::Output(e) => write!(f, "bench: standard output cannot be written: {e}"),
+            Failure::Arguments(e) => write!(f, "{e}"),
+            Failure::Input(e) => writeln!(f, "bench: standard input cannot be read: {e}"),
+            Failure::Output(e) => writeln!(f, "bench: standard output cannot be written: {e}"),
         }
     }
 }
 
-fn write<W: Write>(output: &mut W, bytes: &[u8]) -> Result<(), Failure> {
+fn print<W: Write>(output: &mut W, bytes: &[u8]) -> Result<(), Failure> {
     output.write_all(bytes).map_err(Failure::Output)
-}
-
-fn say<W: Write>(output: &mut W, t: Text) -> Result<(), Failure> {
-    let from = t.from;
-    let bytes = t.bytes;
-    if from < 64 {
-        write(output, &bytes[from..])
-    } else {
-        Ok(())
-    }
 }
 
 // The bytes of one read, one after the other, until a row cannot be written.
 fn feed<W: Write>(
     output: &mut W,
-    s: Progress,
+    progress: &mut Progress,
     m: &mut [u8],
     input: &[u8],
-) -> Result<Progress, Failure> {
-    let mut progress = s;
+) -> Result<(), Failure> {
     for byte in input {
-        let said = benchwork::step(progress, m, *byte);
-        progress = said.progress;
-        say(output, said.text)?;
+        print(output, progress.step(m, *byte).as_slice())?;
     }
-    Ok(progress)
-}
-
-// One read of the input, and what it asks for; nothing at the input's end.
-fn turn<R: Read, W: Write>(
-    input: &mut R,
-    output: &mut W,
-    s: Progress,
-    m: &mut [u8],
-    buffer: &mut [u8],
-) -> Result<Option<Progress>, Failure> {
-    let n = input.read(buffer).map_err(Failure::Input)?;
-    if n == 0 {
-        Ok(None)
-    } else {
-        Ok(Some(feed(output, s, m, &buffer[..n])?))
-    }
+    Ok(())
 }
 
 // The count of turns only shows that the loop ends: no input is that long.
@@ -81,38 +59,15 @@ fn run<R: Read, W: Write>(
     m: &mut [u8],
 ) -> Result<(), Failure> {
     let mut buffer = [0u8; 65536];
-    let mut progress = benchwork::start(size);
+    let mut progress = Progress::start(size);
     for _ in 0..u64::MAX {
-        match turn(input, output, progress, m, &mut buffer)? {
-            Some(next) => progress = next,
-            None => return say(output, benchwork::end(progress, m)),
+        let n = input.read(&mut buffer).map_err(Failure::Input)?;
+        if n == 0 {
+            return print(output, progress.end(m).as_slice());
         }
+        feed(output, &mut progress, m, &buffer[..n])?;
     }
     Ok(())
-}
-
-// The whole output of the whole input, with a unit of that size.
-fn work<R: Read, W: Write>(input: &mut R, output: &mut W, size: Size) -> Result<(), Failure> {
-    let mut memory = [0u8; 65536];
-    write(output, &rowtext::header())?;
-    run(input, output, size, &mut memory)
-}
-
-// What standard error does not take is told nowhere.
-fn tell(rt: HostRuntime, bytes: &[u8]) {
-    let _ = rt.stderr().write_all(bytes);
-}
-
-// A unit that is not made is told before anything is read or printed.
-fn make(rt: HostRuntime, making: Making) {
-    match making {
-        Making::With(size) => {
-            if let Err(failure) = work(&mut rt.stdin(), &mut rt.stdout(), size) {
-                let _ = eprintln!(rt; "{failure}");
-            }
-        }
-        Making::OtherCount => tell(rt, &arguments::refusal()),
-    }
 }
 
 // An argument of the program. One that is not there, or is longer than the bytes lent for it, reads as an empty one: it is
@@ -133,13 +88,22 @@ fn word_count(rt: HostRuntime) -> usize {
     usize::MAX
 }
 
-fn main(rt: HostRuntime) {
+// The whole output of the whole input. A unit that is not made is told before anything is read or printed.
+fn work(rt: HostRuntime) -> Result<(), Failure> {
     let mut option = [0u8; 16];
     let mut count = [0u8; 16];
     let option = argument(rt, 1, &mut option);
     let count = argument(rt, 2, &mut count);
-    match arguments::asked_for(word_count(rt), option, count) {
-        Asked::Unit(making) => make(rt, making),
-        Asked::BadUsage => tell(rt, &arguments::usage()),
+    let size = arguments::asked_for(word_count(rt), option, count)?;
+    let mut memory = [0u8; 65536];
+    let mut output = rt.stdout();
+    print(&mut output, rowtext::header())?;
+    run(&mut rt.stdin(), &mut output, size, &mut memory)
+}
+
+fn main(rt: HostRuntime) {
+    if let Err(failure) = work(rt) {
+        // What standard error does not take is told nowhere.
+        let _ = eprint!(rt; "{failure}");
     }
 }

@@ -2,29 +2,32 @@
 #![tactic(auto)]
 
 ghost use Rattle.std.specs.Prelude.{◌≡◌};
-ghost use Rattle.tally.specs.Tally.{Holds};
 ghost use Rattle.benchline.specs.Bench.{line_done};
 
 use linetext::Line;
-use tally::{Bench, Told};
+use rowtext::Text;
+use tally::Bench;
 
-// What one line does to the unit and to memory, and what it prints.
-#[tactic(auto, unfolding(crate::specs::Bench::line_done, crate::specs::Bench::call_done))]
-pub fn line(b: Bench, m: &mut [u8], asks: Line) -> Told
-    ensures bench { result.bench ≡ (line_done m.old b asks).bench }
-    ensures memory { m.new ≡ (line_done m.old b asks).memory }
-    ensures text { Holds result.text (line_done m.old b asks).prints }
+// What one line does to the unit and to memory, and what it prints. A line that asks for nothing known is bad.
+#[tactic(auto, using(crate::proofs::Calls::interrupt_memory, crate::proofs::Calls::trap_memory, crate::proofs::Calls::init_memory), unfolding(crate::specs::Bench::line_done, crate::specs::Bench::call_done, tally::specs::Tally::line_counted))]
+pub fn line(b: &mut Bench, m: &mut [u8], asks: Option<Line>) -> Text
+    ensures bench { b.new ≡ (line_done m.old b.old asks).bench }
+    ensures memory { m.new ≡ (line_done m.old b.old asks).memory }
+    ensures text { result ≡ (line_done m.old b.old asks).prints }
 {
-    let u = b.unit;
     match asks {
-        Line::Store(at, word) => {
-            memory::store_word(m, at as usize, word);
-            tally::after_line(b, rowtext::empty())
+        Some(Line::Store(at, word)) => {
+            memory::store_word(m, usize::from(at), word);
+            b.count_line();
+            Text::new()
         }
-        Line::Access(f) => tally::after_call(b, unit::access(u, m, linetext::access_in(f))),
-        Line::Interrupt => tally::after_call(b, unit::interrupt(u)),
-        Line::Trap(vector) => tally::after_call(b, unit::trap(u, vector as u64)),
-        Line::Init => tally::after_call(b, unit::init(u)),
-        Line::Bad => tally::after_line(b, rowtext::bad_line(tally::next(b.lines))),
+        Some(Line::Access(access)) => b.count_call(unit::access(b.unit, m, access)),
+        Some(Line::Interrupt) => b.count_call(unit::interrupt(b.unit)),
+        Some(Line::Trap(vector)) => b.count_call(unit::trap(b.unit, u64::from(vector))),
+        Some(Line::Init) => b.count_call(unit::init(b.unit)),
+        None => {
+            b.count_line();
+            rowtext::bad_line(b.lines)
+        }
     }
 }

@@ -1,19 +1,20 @@
 -- The theorem of the output: what is printed byte by byte is the whole output of the whole input, whatever the input and the unit's size.
-use Prim.Native.Nat.{ℕ, ◌<◌}
+use Prim.Native.Nat.{ℕ}
 use mathlib.Core.Path.{◌≡◌, refl, ap, sym, ◌∙◌}
 use mathlib.Core.Bool.{Bool, true, false}
 use mathlib.Core.List.{List, [], ◌∷◌, ◌++◌, append-nil}
 use native.Mathlib.Omega.{arith}
+use lib.ListN.{length, length-append}
 use lib.Dec.{eqb, ltb}
 use borrow.Author.Tests.{ne_eqb}
+use Rattle.std.specs.Prelude.{Some, None}
 use Rattle.rules.specs.declared.Size.{Size}
 use Rattle.rules.specs.Choice.{pick}
 use Rattle.rules.specs.Memory.{Memory}
 use Rattle.rules.proofs.Laws.Choices.{picked}
 use Rattle.fieldtext.specs.Cut.{onto}
 use Rattle.linetext.specs.Line.{line_of}
-use Rattle.gathering.specs.declared.Gather.{Gather}
-use Rattle.gathering.specs.Gather.{nothing_yet, push_of, push_all, gathered}
+use Rattle.gathering.specs.Gather.{Gathered, nothing_yet, is_nothing, push_of, push_all, gathered}
 use Rattle.gathering.proofs.Whole.{whole}
 use Rattle.rowtext.specs.Row.{header_of}
 use Rattle.tally.specs.declared.Bench.{Bench}
@@ -24,23 +25,27 @@ use Rattle.benchwork.specs.Bytes.{Stepped, fresh_progress, line_ended, byte_adde
 
 -- A gather that was pushed into ------------------------------------------------------------------------------------------
 
-push_last : (g : Gather) (p : List ℕ) (x : ℕ) → push_all g (p ++ x ∷ []) ≡ push_of (push_all g p) x
+push_last : (g : Gathered) (p : List ℕ) (x : ℕ) → push_all g (p ++ x ∷ []) ≡ push_of (push_all g p) x
 unfolding push_all
 push_last g [] x = refl
 push_last g (b ∷ p) x = push_last (push_of g b) p x
 
 -- is not empty
-push_some : (g : Gather) (x : ℕ) → 0 < (push_of g x).len
-unfolding push_of
-push_some g x = picked (λ (h : Gather). 0 < h.len) (ltb g.len 40) _ _ (λ e. omega arith) (λ e. omega arith)
+push_some : (g : Gathered) (x : ℕ) → is_nothing (push_of g x) ≡ false
+unfolding push_of is_nothing
+push_some (Some s) x =
+    picked (λ (h : Gathered). is_nothing h ≡ false) (ltb (length s) 40) _ _
+    (λ e. let longer = length-append s (x ∷ []) in ne_eqb (length (s ++ x ∷ [])) 0 (λ z. omega arith))
+    (λ e. refl)
+push_some None x = refl
 
 -- and stays so
-some_stays : (g : Gather) (s : List ℕ) → 0 < g.len → 0 < (push_all g s).len
+some_stays : (g : Gathered) (s : List ℕ) → is_nothing g ≡ false → is_nothing (push_all g s) ≡ false
 unfolding push_all
 some_stays g [] h = h
 some_stays g (b ∷ s) h = some_stays (push_of g b) s (push_some g b)
 
-gathered-some : (x : ℕ) (p : List ℕ) → 0 < (gathered (x ∷ p)).len
+gathered-some : (x : ℕ) (p : List ℕ) → is_nothing (gathered (x ∷ p)) ≡ false
 unfolding gathered push_all
 gathered-some x p = some_stays (push_of nothing_yet x) p (push_some nothing_yet x)
 
@@ -74,8 +79,7 @@ last_line :
     → ended m (record { bench = b; gather = gathered (x ∷ p) }) ≡ printed m b ((x ∷ p) ∷ [])
 unfolding ended printed pick
 last_line m b x p =
-    let some : 0 < (gathered (x ∷ p)).len = gathered-some x p in
-    simp (ne_eqb (gathered (x ∷ p)).len 0 (omega arith), whole (x ∷ p), append-nil)
+    simp (gathered-some x p, whole (x ∷ p), append-nil)
 
 module _ (m : Memory) (b : Bench) (p : List ℕ) (x : ℕ) where
   -- the bench, with the bytes p of a line gathered
@@ -94,7 +98,7 @@ module _ (m : Memory) (b : Bench) (p : List ℕ) (x : ℕ) where
 from_bytes :
     (s : List ℕ) (m : Memory) (b : Bench) (p : List ℕ)
     → printed_from m (record { bench = b; gather = gathered p }) s ≡ printed m b (lines_from p s)
-unfolding printed_from ended gathered push_all nothing_yet lines_from lines_of printed pick line_ended byte_added amid
+unfolding printed_from ended is_nothing gathered push_all nothing_yet lines_from lines_of printed pick line_ended byte_added amid
 from_bytes [] m b [] = refl
 from_bytes [] m b (x ∷ p) = last_line m b x p ∙ ap (printed m b) (sym (end_ends x p))
 from_bytes (x ∷ s) m b p = by (λ m b p. from_bytes s m b p) (eqb x 10) refl
@@ -115,7 +119,7 @@ from_bytes (x ∷ s) m b p = by (λ m b p. from_bytes s m b p) (eqb x 10) refl
         ∙ ap (printed m b) (sym (newline-ends p x s e))
     by rest false e =
         ap after (byte_step m b p x e)
-        ∙ ap (λ (g : Gather). printed_from m (record { bench = b; gather = g }) s) (sym (push_last nothing_yet p x))
+        ∙ ap (λ (g : Gathered). printed_from m (record { bench = b; gather = g }) s) (sym (push_last nothing_yet p x))
         ∙ rest m b (p ++ x ∷ [])
         ∙ ap (printed m b) (sym (other_joins p x s e))
 

@@ -3,7 +3,7 @@ use Rattle.std.specs.Prelude.{ℕ, List, [], ◌∷◌, ◌++◌, eqb}
 use Rattle.rules.specs.declared.Size.{Size}
 use Rattle.rules.specs.Choice.{pick}
 use Rattle.rules.specs.Memory.{Memory}
-use Rattle.gathering.specs.Gather.{nothing_yet, push_of, line_in}
+use Rattle.gathering.specs.Gather.{nothing_yet, is_nothing, push_of, line_in}
 use Rattle.benchline.specs.Bench.{Done, line_done}
 use Rattle.benchwork.specs.declared.Progress.{Progress}
 use Rattle.benchwork.specs.Whole.{fresh_bench}
@@ -29,7 +29,7 @@ stepped m s x = pick (eqb x 10) (line_ended (line_done m s.bench (line_in s.gath
 
 -- what the end of the input prints: the last line's row, if bytes of it are there
 unfoldable pub ended : Memory → Progress → List ℕ
-ended m s = pick (eqb s.gather.len 0) [] (line_done m s.bench (line_in s.gather)).prints
+ended m s = pick (is_nothing s.gather) [] (line_done m s.bench (line_in s.gather)).prints
 
 unfoldable pub printed_from : Memory → Progress → List ℕ → List ℕ
 printed_from m s [] = ended m s

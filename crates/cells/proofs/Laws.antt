@@ -1,58 +1,52 @@
--- One step of a pass over a list of cells: of the search for a tag, and of a change that is made to each cell in its place.
-use Prim.Native.Nat.{ℕ, suc, ◌+◌, ◌≤◌, ◌<◌}
-use mathlib.Core.Path.{◌≡◌, sym, ap, ◌∙◌}
-use mathlib.Core.List.{List, ◌++◌, map, append-nil}
-use native.Mathlib.Numerals.{add-one}
+-- The search for a tag from the last cell to the first: what is gathered is the search among the cells that were compared.
+use Prim.Native.Nat.{ℕ, suc}
+use mathlib.Core.Path.{◌≡◌, refl, sym, ap, ◌∙◌}
+use mathlib.Core.List.{List, [], ◌∷◌, ◌++◌, map, append-nil}
 use native.Mathlib.Omega.{arith}
 use borrow.Author.Tests.{eq-eqb, ne_eqb}
-use lib.ListN.{length, get_or, set, take, drop, drop_of_length-le}
-use lib.Seq.{length-take-le, get_or-take, drop-cons, take-suc-set, drop-set-lt, take_all, append_snoc}
+use lib.ListN.{length, drop, length-append}
+use lib.Seq.{append_snoc, drop-length}
+use Rattle.std.specs.List.{push}
+use Rattle.std.specs.Prelude.{Option, Some, None}
 use Rattle.rules.specs.declared.Cell.{Cell}
-use Rattle.rules.specs.declared.Found.{Found}
 use Rattle.rules.specs.Choice.{pick}
-use Rattle.rules.specs.Unit.{empty_cell}
 use Rattle.rules.specs.Registers.{found_from}
 use Rattle.rules.specs.Maps.{tag_in}
 
 -- the rest of the search, from place i on
-abbrev pub sought_from : List Cell → ℕ → ℕ → Found
+abbrev pub sought_from : List Cell → ℕ → ℕ → Option ℕ
 sought_from l i tag = found_from i (map tag_in (drop i l)) tag
 
-module _ (l : List Cell) (i tag : ℕ) where
-  pub found_here : i < length l → tag ≡ (get_or l i empty_cell).tag → sought_from l i tag ≡ Found.At i
-  unfolding found_from tag_in pick
-  found_here inside h = rw (drop-cons l i empty_cell) (simp (eq-eqb _ _ h))
+dropped : (before : List Cell) (held : Cell) (after : List Cell) → drop (length before) (push before held ++ after) ≡ held ∷ after
+dropped [] held after = refl
+dropped (x ∷ xs) held after = dropped xs held after
 
-  pub found_later : i < length l → (tag ≡ (get_or l i empty_cell).tag → ⊥) → sought_from l i tag ≡ sought_from l (i + 1) tag
-  unfolding found_from tag_in pick
-  found_later inside h = rw (add-one, drop-cons l i empty_cell) (simp (ne_eqb _ _ h))
-
-  pub found_nowhere : length l ≤ i → sought_from l i tag ≡ Found.Missing
+-- before the first comparison all cells are left
+module _ (l left : List Cell) (tag : ℕ) (whole : left ≡ l) where
+  pub none_yet : None ≡ sought_from l (length left) tag
   unfolding found_from
-  found_nowhere past = rw (drop_of_length-le l past)
+  none_yet = rw (whole, drop-length l)
 
--- the same among the first n cells of a list
-module _ (l : List Cell) (n i tag : ℕ) (fits : n ≤ length l) where
-  pub first_here : i < n → tag ≡ (get_or l i empty_cell).tag → sought_from (take n l) i tag ≡ Found.At i
-  first_here inside h =
-      found_here (take n l) i tag (rw (length-take-le n l fits) inside) (h ∙ ap (λ (x : Cell). x.tag) (sym (get_or-take n l i empty_cell inside)))
+  pub all_left : left ++ drop (length left) l ≡ l
+  all_left = rw (whole, drop-length l, append-nil)
 
-  pub first_later : i < n → (tag ≡ (get_or l i empty_cell).tag → ⊥) → sought_from (take n l) i tag ≡ sought_from (take n l) (i + 1) tag
-  first_later inside h =
-      found_later (take n l) i tag (rw (length-take-le n l fits) inside) (λ e. h (e ∙ ap (λ (x : Cell). x.tag) (get_or-take n l i empty_cell inside)))
+-- one cell more is compared, the last of those that were left
+module _ (l before left : List Cell) (held : Cell) (tag : ℕ) (split : left ++ drop (length left) l ≡ l) (last : left ≡ push before held) where
+  from_here : drop (length before) l ≡ held ∷ drop (length left) l
+  from_here =
+      ap (drop (length before)) (sym split ∙ ap (λ (o : List Cell). o ++ drop (length left) l) last)
+      ∙ dropped before held (drop (length left) l)
 
-  pub first_nowhere : n ≤ i → sought_from (take n l) i tag ≡ Found.Missing
-  first_nowhere past = found_nowhere (take n l) i tag (rw (length-take-le n l fits) past)
+  pub still_split : before ++ drop (length before) l ≡ l
+  still_split = rw from_here (sym (append_snoc before held _) ∙ ap (λ (o : List Cell). o ++ drop (length left) l) (sym last) ∙ split)
 
--- a list whose first i cells were changed by f, and the others still will be
-abbrev pub changing : (Cell → Cell) → List Cell → ℕ → List Cell
-changing f l i = take i l ++ map f (drop i l)
+  pub matched : tag ≡ held.tag → Some (length before) ≡ sought_from l (length before) tag
+  unfolding found_from tag_in pick
+  matched h = rw from_here (simp (eq-eqb _ _ h))
 
-module _ (f : Cell → Cell) (l : List Cell) (i : ℕ) where
-  pub changed_here : i < length l → changing f (set l i (f (get_or l i empty_cell))) (i + 1) ≡ changing f l i
-  changed_here inside =
-      let next : i < suc i = omega arith in
-      rw (add-one, take-suc-set l i, drop-set-lt (suc i) l i, drop-cons l i empty_cell, append_snoc)
-
-  pub changed_all : length l ≤ i → changing f l i ≡ l
-  changed_all past = rw (take_all i l past, drop_of_length-le l past, append-nil)
+  pub unmatched : (tag ≡ held.tag → ⊥) → sought_from l (length left) tag ≡ sought_from l (length before) tag
+  unfolding found_from tag_in pick
+  unmatched h =
+      let longer : length left ≡ suc (length before) = rw last (omega (arith, length-append {A = Cell})) in
+      rw (from_here, ne_eqb _ _ h)
+      (ap (λ (i : ℕ). found_from i (map tag_in (drop (length left) l)) tag) longer)

@@ -3,72 +3,54 @@
 // read. There is room for more, and what stands there is no matter.
 #![tactic(auto)]
 
-ghost use Rattle.std.specs.Prelude.{◌≡◌, map, ◌-◌, length, get_or, set, take, replicate};
-ghost use Rattle.rules.specs.Unit.{count_of, empty_cell, emptied};
-ghost use Rattle.rules.specs.Registers.{found_from, peeked, cell_stored, pad_stored};
-ghost use Rattle.rules.specs.Maps.{tag_in, stepped, filled, holds, cell_forgotten, forgotten};
+ghost use Rattle.std.specs.Prelude.{◌≡◌, ◌-◌};
+ghost use Rattle.rules.specs.Unit.{count_of, there, cell_at, emptied};
+ghost use Rattle.rules.specs.Registers.{peeked, cell_stored, pad_stored};
+ghost use Rattle.rules.specs.Maps.{cell_of, stepped, filled, holds, cell_forgotten, forgotten};
 
-use rules::{Associative, Cell, Cells, Found, Part, ROOM, Size};
+use rules::{Associative, Cell, Cells, Part, ROOM, Size};
+use sizes::FIRST_CELL;
 
 // "Emptying a cell sets its tag and word to 0."
-const EMPTY: Cell = Cell { tag: 0, word: 0 };
+pub const EMPTY: Cell = Cell { tag: 0, word: 0 };
 
-// The number of the first cell, as the counter counts them.
-const FIRST: u16 = 0o10;
+// The cells that the unit has.
+#[tactic(auto, unfolding(rules::specs::Unit::there))]
+fn there(k: &Cells) -> &[Cell]
+    ensures { result.now ≡ there k.now }
+{
+    &k.list[..sizes::count_of(k.size)]
+}
 
-// Which cell holds a page, the first where several do, out of those that a unit of this size has. Each is compared, whatever the others gave:
+// Which cell holds a page, the first where several do, out of those that the unit has. Each is compared, whatever the others gave:
 // "simultaneous comparison of the 8 8-bit words it contains against the seek data" (source 4.1.2.1).
 // From the last cell to the first, each match replaces the one gathered before it, so that the lowest place stays: a host's words may hold a
 // tag twice, and the first is promised.
-#[tactic(auto, unfolding(rules::specs::Unit::empty_cell))]
-pub fn cell_of(list: [Cell; ROOM], size: Size, tag: u16) -> Found
-    ensures { result ≡ found_from 0 (map tag_in (take (count_of size) list)) tag }
+pub fn cell_of(k: &Cells, tag: u16) -> Option<usize>
+    ensures { result ≡ cell_of k.now tag }
 {
-    let count = sizes::count_of(size);
-    let mut gathered = Found::Missing;
-    let mut left = count;
-    while 0 < left {
-        let i = left - 1;
-        let held = list[i];
+    let mut gathered = None;
+    for (i, held) in there(k).iter().enumerate().rev() {
         if tag == held.tag {
-            gathered = Found::At(i);
+            gathered = Some(i);
         }
-        left -= 1;
     }
     gathered
 }
 
-// A cell by its place; past the last one that a unit of this size has, an empty cell.
+// A cell by its place; past the last one that the unit has, an empty cell.
 #[tactic(auto, unfolding(rules::specs::Unit::empty_cell))]
-pub fn cell_at(list: [Cell; ROOM], size: Size, i: usize) -> Cell
-    ensures { result ≡ get_or (take (count_of size) list) i empty_cell }
+pub fn cell_at(k: &Cells, i: usize) -> Cell
+    ensures { result ≡ cell_at k.now i }
 {
-    if i < sizes::count_of(size) {
-        list[i]
-    } else {
-        EMPTY
-    }
-}
-
-// The list with one cell changed; where there is no room, the list as it is.
-fn with_cell(mut list: [Cell; ROOM], i: usize, held: Cell) -> [Cell; ROOM]
-    ensures { result ≡ set list i held }
-{
-    if i < ROOM {
-        list[i] = held;
-    }
-    list
+    there(k).get(i).copied().unwrap_or(EMPTY)
 }
 
 // The place in the list of the cell that the counter names. A counter below the first cell names the first.
 fn cell_named(counter: u16) -> usize
     ensures { result ≡ counter - 0o10 }
 {
-    if counter < FIRST {
-        0
-    } else {
-        (counter - FIRST) as usize
-    }
+    usize::from(counter.saturating_sub(FIRST_CELL))
 }
 
 // "then the counter steps 10o to 17o and round", or to 37o with 24 cells: the last is 7 more than there are cells.
@@ -76,10 +58,10 @@ fn cell_named(counter: u16) -> usize
 fn next_counter(size: Size, counter: u16) -> u16
     ensures { result ≡ stepped (count_of size) counter }
 {
-    if (counter as usize) < 7 + sizes::count_of(size) {
+    if usize::from(counter) < 7 + sizes::count_of(size) {
         counter + 1
     } else {
-        FIRST
+        FIRST_CELL
     }
 }
 
@@ -88,29 +70,11 @@ fn next_counter(size: Size, counter: u16) -> u16
 pub fn filled(k: Cells, tag: u16, word: u16) -> Cells
     ensures { result ≡ filled k tag word }
 {
-    let list = k.list;
-    let size = k.size;
-    let after = with_cell(list, cell_named(k.counter), Cell { tag, word });
-    let counter = next_counter(size, k.counter);
     Cells {
-        size,
-        list: after,
-        counter,
+        list: registers::stored(k.list, cell_named(k.counter), Cell { tag, word }),
+        counter: next_counter(k.size, k.counter),
+        ..k
     }
-}
-
-// Every cell that holds the page is emptied, so that nothing rests on its being in one cell only.
-#[tactic(auto, unfolding(rules::specs::Unit::empty_cell))]
-fn list_forgotten(mut list: [Cell; ROOM], tag: u16) -> [Cell; ROOM]
-    ensures { result ≡ map (cell_forgotten tag) list }
-{
-    let mut i = 0;
-    while i < ROOM {
-        let held = list[i];
-        list[i] = cell_forgotten(held, tag);
-        i += 1;
-    }
-    list
 }
 
 // "0 means empty", and exec page 0 has "no cell".
@@ -118,7 +82,7 @@ fn list_forgotten(mut list: [Cell; ROOM], tag: u16) -> [Cell; ROOM]
 fn holds(held: Cell, tag: u16) -> bool
     ensures { result ≡ holds tag held }
 {
-    (held.tag == tag) & !(held.tag == 0)
+    held.tag == tag && held.tag != 0
 }
 
 #[tactic(auto, unfolding(rules::specs::Maps::cell_forgotten, rules::specs::Choice::pick, rules::specs::Unit::empty_cell))]
@@ -128,41 +92,27 @@ fn cell_forgotten(held: Cell, tag: u16) -> Cell
     if holds(held, tag) { EMPTY } else { held }
 }
 
-// "the cell of the page at fault .. empties"; the counter stays.
+// "the cell of the page at fault .. empties"; the counter stays. Every cell that holds the page is emptied, so that nothing rests on its being in one
+// cell only.
 #[tactic(auto, unfolding(rules::specs::Maps::forgotten))]
 pub fn forgotten(k: Cells, tag: u16) -> Cells
     ensures { result ≡ forgotten k tag }
 {
-    let list = k.list;
-    let size = k.size;
-    let after = list_forgotten(list, tag);
     Cells {
-        size,
-        list: after,
-        counter: k.counter,
+        list: k.list.map(|held| cell_forgotten(held, tag)),
+        ..k
     }
 }
 
-// As many empty cells as the list has; it comes along for its length, which is known of an array and not of a field.
-#[tactic(auto, unfolding(rules::specs::Unit::empty_cell))]
-fn list_emptied(list: [Cell; ROOM]) -> [Cell; ROOM]
-    ensures { result ≡ replicate (length list) empty_cell }
-{
-    [EMPTY; ROOM]
-}
-
 // "empties all cells and sets the counter to 10o"; how many there are stays.
-#[tactic(auto, unfolding(rules::specs::Unit::emptied))]
+#[tactic(auto, unfolding(rules::specs::Unit::emptied, rules::specs::Unit::empty_cell))]
 pub fn emptied(k: Cells) -> Cells
     ensures { result ≡ emptied k }
 {
-    let list = k.list;
-    let size = k.size;
-    let after = list_emptied(list);
     Cells {
-        size,
-        list: after,
-        counter: FIRST,
+        list: [EMPTY; ROOM],
+        counter: FIRST_CELL,
+        ..k
     }
 }
 
@@ -174,8 +124,8 @@ fn cell_stored(held: Cell, p: Part, v: u16) -> Cell
         held
     } else {
         Cell {
-            tag: held.tag,
             word: registers::merged(p, held.word, v),
+            ..held
         }
     }
 }
@@ -185,28 +135,20 @@ fn cell_stored(held: Cell, p: Part, v: u16) -> Cell
 pub fn pad_stored(k: Cells, i: usize, p: Part, v: u16) -> Cells
     ensures { result ≡ pad_stored k i p v }
 {
-    let list = k.list;
-    let size = k.size;
-    let held = cell_stored(cell_at(list, size, i), p, v);
-    let after = with_cell(list, i, held);
+    let held = cell_stored(cell_at(&k, i), p, v);
     Cells {
-        size,
-        list: after,
-        counter: k.counter,
+        list: registers::stored(k.list, i, held),
+        ..k
     }
 }
 
 // "KTMR reads the counter times 256"; a scratchpad word reads what its cell holds.
-#[tactic(auto, unfolding(rules::specs::Registers::peeked, rules::specs::Unit::there))]
-pub fn peeked(k: Cells, g: Associative) -> u16
-    ensures { result ≡ peeked k g }
+#[tactic(auto, unfolding(rules::specs::Registers::peeked))]
+pub fn peeked(k: &Cells, g: Associative) -> u16
+    ensures { result ≡ peeked k.now g }
 {
     match g {
         Associative::Ktmr => k.counter % 256 * 256,
-        Associative::Pad(i) => {
-            let list = k.list;
-            let size = k.size;
-            cell_at(list, size, i).word
-        }
+        Associative::Pad(i) => cell_at(k, i).word,
     }
 }

@@ -10,7 +10,7 @@ use lib.Seq.{drop-drop}
 use borrow.Author.Tests.{ne_eqb, eqb-true, eqb-false, ltb-true, leb-true}
 use Rattle.rules.specs.declared.Wait.{Wait}
 use Rattle.rules.specs.declared.Size.{Size}
-use Rattle.rules.specs.declared.Making.{Making}
+use Rattle.std.specs.Prelude.{Some}
 use Rattle.rules.specs.declared.Unit.{Unit}
 use Rattle.rules.specs.Choice.{pick}
 use Rattle.rules.specs.Unit.{count_of, size_of, room, kept_count}
@@ -98,11 +98,11 @@ size-there Size.Eight = refl
 size-there Size.TwentyFour = refl
 
 -- one of the two numbers is read as the size that is made with it: no other number is taken in words than in making
-pub size-made : (n : ℕ) → (eqb n 8 || eqb n 24) ≡ true → size_of n ≡ Making.With (size_in n)
+pub size-made : (n : ℕ) → (eqb n 8 || eqb n 24) ≡ true → size_of n ≡ Some (size_in n)
 unfolding size_of size_in pick
 size-made n h = go (eqb n 24) (eqb n 8) refl refl h
   where
-    go : (a b : Bool) → eqb n 24 ≡ a → eqb n 8 ≡ b → (b || a) ≡ true → size_of n ≡ Making.With (size_in n)
+    go : (a b : Bool) → eqb n 24 ≡ a → eqb n 8 ≡ b → (b || a) ≡ true → size_of n ≡ Some (size_in n)
     go true b e f t = let other : eqb n 8 ≡ false = ne_eqb n 8 (λ o. eqb-false 8 24 refl (sym o ∙ eqb-true n 24 e)) in rw (e, other)
     go false true e f t = rw (e, f)
     go false false e f t = true_is_not_false (sym t)

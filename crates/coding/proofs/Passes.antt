@@ -1,12 +1,14 @@
 -- One turn of a pass over the cells: of the reading of cells from words, and of their writing.
-use Prim.Native.Nat.{ℕ, suc, ◌+◌, ◌-◌, ◌≤◌, ◌<◌}
-use mathlib.Core.Path.{◌≡◌, sym, ap, ◌∙◌}
-use mathlib.Core.List.{List, [], ◌∷◌, ◌++◌, map, append-nil}
+use denote.Param.Members.{Mut, Called}
+use Prim.Native.Nat.{ℕ, zero, suc, ◌+◌, ◌≤◌, ◌<◌}
+use mathlib.Core.Path.{◌≡◌, sym, ap, subst, ◌∙◌}
+use mathlib.Core.List.{List, [], ◌∷◌, ◌++◌, map}
 use native.Mathlib.Nat.{add-zero}
 use native.Mathlib.Numerals.{add-one}
 use native.Mathlib.Omega.{arith}
 use lib.ListN.{length, get_or, set, take, drop, length-set, length-append, drop_of_length-le, length-map, get_or-map}
 use lib.Seq.{drop-cons, get_or-set_same, take-set-le, drop-drop, get_or-drop, take-suc-set, take_all, append_snoc, take-set-lt, drop-set-lt, set-append_left, length-take-le, paste, paste-zero, paste-suc, length-paste, take-paste, drop-paste}
+use Rattle.std.specs.Array.{IsFromFnResult, IsFromFnResultFrom}
 use Rattle.rules.specs.declared.Cell.{Cell}
 use Rattle.rules.specs.Unit.{empty_cell}
 use Rattle.rules.specs.Maps.{tag_in}
@@ -14,27 +16,26 @@ use Rattle.coding.specs.Coding.{cells_in, word_in}
 
 -- Reading --------------------------------------------------------------------------------------------------------------------------
 
--- n cells, tags from place s on and words from place v on: the first i of them read, and the others still words
-abbrev pub reading : ℕ → ℕ → ℕ → List ℕ → List Cell → ℕ → List Cell
-reading n s v w l i = take i l ++ cells_in (n - i) (drop (s + i) w) (drop (v + i) w)
+-- Cells that were made one after the other, each of the tag and the word that stand at its place behind s and v, are those that the words hold.
+module _ {F : Type 0} (g : Mut F (ℕ × Unit {0}) Cell) (s v : ℕ) (w : List ℕ) (l : List Cell) (f : F) where
+  abbrev pub ReadsEach : Type 0
+  ReadsEach =
+      (i : ℕ) (x : Cell) (q : F) → Called g f (i, tt) x q → (x ≡ record { tag = get_or w (s + i) 0; word = get_or w (v + i) 0 }) × (q ≡ f)
 
-module _ (n s v : ℕ) (w : List ℕ) (l : List Cell) (i : ℕ) (many : length l ≡ n) where
-  pub read_here :
-      i < n → reading n s v w (set l i (record { tag = get_or w (s + i) 0; word = get_or w (v + i) 0 })) (i + 1) ≡ reading n s v w l i
+  read_from : ReadsEach → (n i : ℕ) → length l ≡ i + n → IsFromFnResultFrom g f l i n → cells_in n (drop (s + i) w) (drop (v + i) w) ≡ drop i l
   unfolding cells_in
-  read_here inside =
-      let h : i < length l = omega arith in
-      let left : n - i ≡ suc (n - suc i) = omega arith in
-      let tag : s + suc i ≡ s + i + 1 = omega arith in
-      let word : v + suc i ≡ v + i + 1 = omega arith in
-      rw (left, add-one i, take-suc-set l i, append_snoc, tag, word) (simp (get_or-drop, drop-drop, add-zero))
+  read_from reads zero i long made = sym (drop_of_length-le l (omega arith))
+  read_from reads (suc n) i long (q, x, here, called, rest) =
+      let read = reads i x q called in
+      let inside : i < length l = omega arith in
+      let next : cells_in n (drop (s + (i + 1)) w) (drop (v + (i + 1)) w) ≡ drop (i + 1) l =
+      read_from reads n (i + 1) (omega arith) (subst (λ (p : F). IsFromFnResultFrom g p l (i + 1) n) read.1 rest) in
+      let tag : s + (i + 1) ≡ s + i + 1 = omega arith in
+      let word : v + (i + 1) ≡ v + i + 1 = omega arith in
+      rw (drop-cons l i x inside, here.0, read.0, ← add-one i, ← next, tag, word) (simp (get_or-drop, drop-drop, add-zero))
 
-  pub read_all : n ≤ i → reading n s v w l i ≡ l
-  unfolding cells_in
-  read_all past =
-      let h : length l ≤ i = omega arith in
-      let none : n - i ≡ 0 = omega arith in
-      rw (none, take_all i l, append-nil)
+  pub read_all : ReadsEach → (n : ℕ) → IsFromFnResult g f l n → cells_in n (drop s w) (drop v w) ≡ l
+  read_all reads n made = simp (add-zero) at (read_from reads n 0 (omega (arith, made.long)) made.each)
 
 -- Writing --------------------------------------------------------------------------------------------------------------------------
 

@@ -9,7 +9,7 @@ use lib.ListN.{get_or}
 use borrow.Author.Tests.{eq-eqb, lt-ltb, le-leb}
 use Rattle.rules.specs.declared.Wait.{Wait}
 use Rattle.rules.specs.declared.Size.{Size}
-use Rattle.rules.specs.declared.Making.{Making}
+use Rattle.std.specs.Prelude.{Some}
 use Rattle.rules.specs.declared.Unit.{Unit}
 use Rattle.rules.specs.declared.Call.{Call}
 use Rattle.rules.specs.Memory.{Memory}
@@ -87,6 +87,6 @@ unit-stays m w c is =
     range_is_unit _ (call_in_range m (decoded w) c (decoded_in_range w is))
 
 -- and whoever wrote words that hold a unit, it is one of the size that is made with the number in them
-pub unit-made : (w : List ℕ) → is_unit w ≡ true → size_of (get_or w count_place 0) ≡ Making.With (decoded w).cells.size
+pub unit-made : (w : List ℕ) → is_unit w ≡ true → size_of (get_or w count_place 0) ≡ Some (decoded w).cells.size
 unfolding decoded cells_of
 unit-made w is = size-made (get_or w count_place 0) (unit-words w is).count

@@ -1,6 +1,6 @@
 -- How a unit lies in words of 16 bits, the same number of them for both sizes: between two words that never change, KTCS packed, and every other
 -- field in a word of its own.
-use Rattle.std.specs.Prelude.{ℕ, zero, suc, ◌+◌, ◌/◌, ◌%◌, Bool, true, false, ◌&&◌, ◌||◌, List, [], ◌∷◌, ◌++◌, map, eqb, ltb, leb, get_or, drop}
+use Rattle.std.specs.Prelude.{ℕ, zero, suc, ◌+◌, ◌/◌, ◌%◌, Bool, true, false, ◌&&◌, ◌||◌, List, [], ◌∷◌, ◌++◌, map, eqb, ltb, leb, get_or, drop, Option, Some, None}
 use Rattle.rules.specs.declared.Wait.{Wait}
 use Rattle.rules.specs.declared.Core.{Core}
 use Rattle.rules.specs.declared.Maps.{Maps}
@@ -121,6 +121,10 @@ cells_of w = record { size = size_in (get_or w count_place 0); list = list_of w;
 -- the unit that words are
 unfoldable pub decoded : List ℕ → Unit
 decoded w = record { core = core_of w; maps = maps_of w; cells = cells_of w }
+
+-- the unit that words hold, if they hold one
+unfoldable pub unit_in : List ℕ → Option Unit
+unit_in w = pick (is_unit w) (Some (decoded w)) None
 
 -- To words --------------------------------------------------------------------------------------------------------------------------
 

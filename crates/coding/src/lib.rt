@@ -3,16 +3,18 @@
 
 ghost use Rattle.std.specs.Prelude.{◌≡◌, ◌++◌, map, length, take, drop};
 ghost use Rattle.rules.specs.Maps.{tag_in};
-ghost use Rattle.coding.specs.Coding.{core_count, tags_place, last_place, unit_words, wait_number, wait_of, flag_number, size_in, is_unit, core_of, maps_of, list_of, cells_of, decoded, core_words, word_in, cells_words, coded};
+ghost use Rattle.coding.specs.Coding.{core_count, tags_place, last_place, unit_words, wait_number, wait_of, flag_number, size_in, is_unit, core_of, maps_of, list_of, cells_of, decoded, unit_in, core_words, word_in, cells_words, coded};
 
 use rules::{Cell, Cells, Core, Fetch, Maps, ROOM, Size, Unit, Wait};
+use sizes::FIRST_CELL;
+use std::array;
 
 // The places of the number of cells and of the counter, behind the core and the map registers.
 const COUNT_AT: usize = 16;
 
 const COUNTER_AT: usize = 17;
 
-// Where the cells' tags begin, and behind them their words.
+// Where the cells' tags begin, and behind them their words: in two rows, so that several tags can be compared at a time, and for C.
 const TAGS_AT: usize = 18;
 
 const WORDS_AT: usize = TAGS_AT + ROOM;
@@ -28,17 +30,14 @@ const FIRST: u16 = 0x324b;
 
 const LAST: u16 = 0x4231;
 
-// The number that names the first cell, as the counter counts them.
-const FIRST_CELL: usize = 0o10;
-
 // The two ends, and every field that has fewer values than a word: this runs at every access, so it tests them all at once.
 #[tactic(auto, unfolding(crate::specs::Coding::is_unit))]
-pub fn is_unit(w: [u16; WORDS]) -> bool
-    ensures { result ≡ is_unit w }
+pub fn is_unit(w: &[u16; WORDS]) -> bool
+    ensures { result ≡ is_unit w.now }
 {
     let count = w[COUNT_AT];
     let counter = w[COUNTER_AT] as usize;
-    let past_cells = FIRST_CELL + sizes::count_of(size_in(count));
+    let past_cells = usize::from(FIRST_CELL) + sizes::count_of(size_in(count));
     (w[0] == FIRST)
         & (w[LAST_AT] == LAST)
         & (w[1] / 0o100 % 0o40 == 0)
@@ -47,109 +46,106 @@ pub fn is_unit(w: [u16; WORDS]) -> bool
         & (w[12] < 3)
         & (w[13] < 2)
         & ((count == 8) | (count == 24))
-        & (FIRST_CELL <= counter)
+        & (usize::from(FIRST_CELL) <= counter)
         & (counter < past_cells)
 }
 
+// What stands in `rules` has no `From` here, since that holds no code: so this and `size_in` are functions.
 #[tactic(auto, unfolding(crate::specs::Coding::wait_of, rules::specs::Choice::pick))]
 pub fn wait_of(n: u16) -> Wait
     ensures { result ≡ wait_of n }
 {
-    if n == 0 {
-        return Wait::Nothing;
+    match n {
+        0 => Wait::Nothing,
+        1 => Wait::StatusDue,
+        2 => Wait::ProgramCounterDue,
+        _ => Wait::SecondReadDue,
     }
-    if n == 1 {
-        return Wait::StatusDue;
-    }
-    if n == 2 {
-        return Wait::ProgramCounterDue;
-    }
-    Wait::SecondReadDue
 }
 
 #[tactic(auto, unfolding(crate::specs::Coding::wait_number))]
 pub fn wait_number(w: Wait) -> u16
     ensures { result ≡ wait_number w }
 {
-    match w {
-        Wait::Nothing => 0,
-        Wait::StatusDue => 1,
-        Wait::ProgramCounterDue => 2,
-        Wait::SecondReadDue => 3,
-    }
+    w as u16
 }
 
 #[tactic(auto, unfolding(crate::specs::Coding::flag_number))]
 pub fn flag_number(b: bool) -> u16
     ensures { result ≡ flag_number b }
 {
-    if b { 1 } else { 0 }
+    u16::from(b)
 }
 
 #[tactic(auto, unfolding(crate::specs::Coding::size_in, rules::specs::Choice::pick))]
 fn size_in(n: u16) -> Size
     ensures { result ≡ size_in n }
 {
-    if n == 24 {
-        Size::TwentyFour
-    } else {
-        Size::Eight
+    match n {
+        24 => Size::TwentyFour,
+        _ => Size::Eight,
     }
 }
 
 #[tactic(auto, unfolding(crate::specs::Coding::core_of))]
-pub fn core_of(w: [u16; WORDS]) -> Core
-    ensures { result ≡ core_of w }
+pub fn core_of(w: &[u16; WORDS]) -> Core
+    ensures { result ≡ core_of w.now }
 {
-    let fetch = Fetch {
-        newer: w[9],
-        older: w[10],
-        datos: w[11],
-        accesses: w[12],
-        public: w[13] == 1,
-    };
-    let kept = [w[2], w[3], w[4], w[5], w[6], w[7]];
+    let [
+        _,
+        ktcs,
+        ktic,
+        ktsp,
+        ktpc,
+        ktps,
+        ktad,
+        ktdt,
+        wait,
+        newer,
+        older,
+        datos,
+        accesses,
+        public,
+        ..
+    ] = *w;
     Core {
-        ktcs: status::unpacked(w[1]),
-        kept,
-        wait: wait_of(w[8]),
-        fetch,
+        ktcs: status::unpacked(ktcs),
+        kept: [ktic, ktsp, ktpc, ktps, ktad, ktdt],
+        wait: wait_of(wait),
+        fetch: Fetch {
+            newer,
+            older,
+            datos,
+            accesses,
+            public: public == 1,
+        },
     }
 }
 
-// There is always the same room, so the compiler makes plain moves of this loop, as of the one that stores the cells.
 #[tactic(auto, unfolding(crate::specs::Coding::list_of))]
-fn list_of(w: [u16; WORDS]) -> [Cell; ROOM]
-    ensures { result ≡ list_of w }
+fn list_of(w: &[u16; WORDS]) -> [Cell; ROOM]
+    ensures { result ≡ list_of w.now }
 {
-    let mut list = [Cell { tag: 0, word: 0 }; ROOM];
-    let mut i = 0;
-    while i < ROOM {
-        list[i] = Cell {
-            tag: w[TAGS_AT + i],
-            word: w[WORDS_AT + i],
-        };
-        i += 1;
-    }
-    list
+    array::from_fn(|i| Cell {
+        tag: w[TAGS_AT + i],
+        word: w[WORDS_AT + i],
+    })
 }
 
 #[tactic(auto, unfolding(crate::specs::Coding::cells_of))]
-pub fn cells_of(w: [u16; WORDS]) -> Cells
-    ensures { result ≡ cells_of w }
+pub fn cells_of(w: &[u16; WORDS]) -> Cells
+    ensures { result ≡ cells_of w.now }
 {
-    let list = list_of(w);
-    let size = size_in(w[COUNT_AT]);
     Cells {
-        size,
-        list,
+        size: size_in(w[COUNT_AT]),
+        list: list_of(w),
         counter: w[COUNTER_AT],
     }
 }
 
 #[tactic(auto, unfolding(crate::specs::Coding::maps_of))]
-pub fn maps_of(w: [u16; WORDS]) -> Maps
-    ensures { result ≡ maps_of w }
+pub fn maps_of(w: &[u16; WORDS]) -> Maps
+    ensures { result ≡ maps_of w.now }
 {
     Maps {
         ktum: w[14],
@@ -157,9 +153,11 @@ pub fn maps_of(w: [u16; WORDS]) -> Maps
     }
 }
 
+// Where a unit is decoded its parts need not lie in memory, so this is written out there.
+#[inline(always)]
 #[tactic(auto, unfolding(crate::specs::Coding::decoded))]
-pub fn decoded(w: [u16; WORDS]) -> Unit
-    ensures { result ≡ decoded w }
+pub fn decoded(w: &[u16; WORDS]) -> Unit
+    ensures { result ≡ decoded w.now }
 {
     Unit {
         core: core_of(w),
@@ -168,70 +166,68 @@ pub fn decoded(w: [u16; WORDS]) -> Unit
     }
 }
 
+// The unit that words hold, if they hold one.
+#[tactic(auto, unfolding(crate::specs::Coding::unit_in, rules::specs::Choice::pick))]
+pub fn unit_in(w: &[u16; WORDS]) -> Option<Unit>
+    ensures { result ≡ unit_in w.now }
+{
+    is_unit(w).then(|| decoded(w))
+}
+
 // An end, the core and the map registers, in the words before the cells; the others stay. The words' number is their type's, and said for callers.
 #[tactic(auto, unfolding(crate::specs::Coding::core_words))]
-pub fn with_core(w: [u16; WORDS], c: Core, r: Maps) -> [u16; WORDS]
-    ensures { (result ≡ core_words c r ++ drop core_count w) × (length w ≡ unit_words) }
+pub fn store_core(w: &mut [u16; WORDS], c: &Core, r: Maps)
+    ensures words { w.new ≡ core_words c.now r ++ drop core_count w.old }
+    ensures number { length w.old ≡ unit_words }
 {
-    let kept = c.kept;
-    let wait = c.wait;
-    let mut o = w;
-    o[0] = FIRST;
-    o[1] = status::packed(c.ktcs);
-    o[2] = kept[0];
-    o[3] = kept[1];
-    o[4] = kept[2];
-    o[5] = kept[3];
-    o[6] = kept[4];
-    o[7] = kept[5];
-    o[8] = wait_number(wait);
-    o[9] = c.fetch.newer;
-    o[10] = c.fetch.older;
-    o[11] = c.fetch.datos;
-    o[12] = c.fetch.accesses;
-    o[13] = flag_number(c.fetch.public);
-    o[14] = r.ktum;
-    o[15] = r.ktem;
-    o
+    let [ktic, ktsp, ktpc, ktps, ktad, ktdt] = c.kept;
+    *w.first_chunk_mut().unwrap() = [
+        FIRST,
+        status::packed(c.ktcs),
+        ktic,
+        ktsp,
+        ktpc,
+        ktps,
+        ktad,
+        ktdt,
+        wait_number(c.wait),
+        c.fetch.newer,
+        c.fetch.older,
+        c.fetch.datos,
+        c.fetch.accesses,
+        flag_number(c.fetch.public),
+        r.ktum,
+        r.ktem,
+    ];
 }
 
 // The tags and the words of all cells for which there is room, each in its place; the others stay.
 #[tactic(auto, unfolding(rules::specs::Unit::empty_cell))]
-fn with_list(w: [u16; WORDS], list: [Cell; ROOM]) -> [u16; WORDS]
-    ensures { result ≡ take tags_place w ++ map tag_in list ++ map word_in list ++ drop last_place w }
+fn store_list(w: &mut [u16; WORDS], list: &[Cell; ROOM])
+    ensures { w.new ≡ take tags_place w.old ++ map tag_in list.now ++ map word_in list.now ++ drop last_place w.old }
 {
-    let mut o = w;
-    let mut i = 0;
-    while i < ROOM {
-        let held = list[i];
-        o[TAGS_AT + i] = held.tag;
-        o[WORDS_AT + i] = held.word;
-        i += 1;
+    for (i, cell) in list.iter().enumerate() {
+        w[TAGS_AT + i] = cell.tag;
+        w[WORDS_AT + i] = cell.word;
     }
-    o
 }
 
-// The cells, their number, the counter and the other end, in the words from the cells on; the others stay. The list comes by itself for its
-// length, which is known of an array and not of a field.
+// The cells, their number, the counter and the other end, in the words from the cells on; the others stay.
 #[tactic(auto, unfolding(crate::specs::Coding::cells_words))]
-fn with_cells(w: [u16; WORDS], size: Size, list: [Cell; ROOM], counter: u16) -> [u16; WORDS]
-    ensures { result ≡ take core_count w ++ cells_words (record { size = size; list = list; counter = counter }) }
+fn store_cells(w: &mut [u16; WORDS], k: &Cells)
+    ensures { w.new ≡ take core_count w.old ++ cells_words k.now }
 {
-    let mut o = w;
-    o[COUNT_AT] = sizes::count_of(size) as u16;
-    o[COUNTER_AT] = counter;
-    o[LAST_AT] = LAST;
-    with_list(o, list)
+    w[COUNT_AT] = sizes::count_of(k.size) as u16;
+    w[COUNTER_AT] = k.counter;
+    w[LAST_AT] = LAST;
+    store_list(w, &k.list);
 }
 
+// All words of a unit, whatever stood there.
 #[tactic(auto, unfolding(crate::specs::Coding::coded, crate::specs::Coding::core_words))]
-pub fn coded(u: Unit) -> [u16; WORDS]
-    ensures { result ≡ coded u }
+pub fn store(w: &mut [u16; WORDS], u: &Unit)
+    ensures { w.new ≡ coded u.now }
 {
-    let c = u.core;
-    let r = u.maps;
-    let k = u.cells;
-    let size = k.size;
-    let list = k.list;
-    with_cells(with_core([0; WORDS], c, r), size, list, k.counter)
+    store_core(w, &u.core, u.maps);
+    store_cells(w, &u.cells);
 }

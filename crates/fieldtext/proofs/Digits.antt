@@ -1,6 +1,5 @@
--- The laws of digits: what one more of them does, and which test of a number makes it none.
-use Rattle.rules.specs.Choice.{pick}
-use Prim.Native.Nat.{ℕ, ◌+◌, ◌-◌, ◌*◌, ◌^◌, ◌≤◌, ◌<◌}
+-- The laws of digits: what one more of them does, and what a field's digits come to as a number.
+use Prim.Native.Nat.{ℕ, suc, ◌+◌, ◌-◌, ◌*◌, ◌^◌, ◌≤◌, ◌<◌}
 use mathlib.Core.Path.{◌≡◌, refl}
 use mathlib.Core.Bool.{Bool, true, false, ◌&&◌, and-false}
 use mathlib.Core.List.{List}
@@ -9,102 +8,80 @@ use native.Mathlib.Nat.{pow-suc, pow-le-pow_right, mul-le-mul_left}
 use native.Mathlib.Omega.{arith}
 use lib.ListN.{length, get_or, drop, drop_of_length-le}
 use lib.Dec.{ltb}
+use lib.Seq.{drop-cons}
 use borrow.Author.Tests.{lt-ltb, le-ltb, ltb-true}
-use Rattle.fieldtext.specs.Number.{is_digit, all_digits, worth, worth_from, are_digits, digits_of, is_number, number_of}
-use Rattle.fieldtext.specs.declared.Figures.{Figures}
-use Rattle.fieldtext.specs.declared.Figures.TheVariants.{Worth, Other}
-use Rattle.fieldtext.specs.declared.Number.{Number}
-use Rattle.fieldtext.specs.declared.Number.TheVariants.{Value, NotOne}
-use Rattle.fieldtext.proofs.Scan.{at_place}
+use Rattle.std.specs.Prelude.{Option, Some, None}
+use Rattle.rules.specs.Choice.{pick}
+use Rattle.fieldtext.specs.Number.{is_digit, digit_of, all_digits, worth, worth_from, are_digits, digits_of, is_number, number_of}
 
-pub and_left : (a b : Bool) → (a && b) ≡ true → a ≡ true
-and_left true b e = refl
-and_left false b e = e
-
-pub and_right : (a b : Bool) → (a && b) ≡ true → b ≡ true
-and_right true b e = e
-and_right false true e = refl
-and_right false false e = e
+-- what the bytes f say after digits that say v, where all are digits
+abbrev pub told_from : ℕ → ℕ → List ℕ → Option ℕ
+told_from base v f = pick (all_digits base f) (Some (worth_from base v f)) None
 
 module _ (base : ℕ) where
-  pub digit_range : (b : ℕ) → is_digit base b ≡ true → (47 < b) × (b < 48 + base)
-  unfolding is_digit
-  digit_range b e =
-      (ltb-true 47 b (and_left (ltb 47 b) (ltb b (48 + base)) e), ltb-true b (48 + base) (and_right (ltb 47 b) (ltb b (48 + base)) e))
+  -- no byte more
+  pub told_end : (f : List ℕ) (v i : ℕ) → length f ≤ i → told_from base v (drop i f) ≡ Some v
+  unfolding all_digits worth_from pick
+  told_end f v i h = rw (drop_of_length-le f h)
 
-  pub digits_end : (s : List ℕ) (i : ℕ) → length s ≤ i → all_digits base (drop i s) ≡ true
-  unfolding all_digits
-  digits_end s i h = rw (drop_of_length-le s h)
+  -- one byte more: a digit, or none
+  abbrev told_after : ℕ → List ℕ → Option ℕ → Option ℕ
+  told_after v f (Some d) = told_from base (v * base + d) f
+  told_after v f None = None
 
-  pub digits_more : (s : List ℕ) (i : ℕ) → i < length s → all_digits base (drop i s) ≡ is_digit base (get_or s i 0) && all_digits base (drop (i + 1) s)
-  unfolding all_digits
-  digits_more s i h = rw (at_place s i h)
+  pub told_more : (f : List ℕ) (v i : ℕ) (d : Option ℕ) → i < length f → d ≡ digit_of base (get_or f i 0)
+      → told_from base v (drop i f) ≡ told_after v (drop (i + 1) f) d
+  unfolding all_digits worth_from digit_of pick
+  told_more f v i d h e = rw (add-one, drop-cons f i 0) (by (is_digit base (get_or f i 0)) (drop (suc i) f) d e)
+    where
+      by : (t : Bool) (s : List ℕ) (d : Option ℕ) → d ≡ pick t (Some (get_or f i 0 - 48)) None
+          → pick (t && all_digits base s) (Some (worth_from base (v * base + (get_or f i 0 - 48)) s)) None ≡ told_after v s d
+      by true s d e = simp e
+      by false s d e = simp e
 
-  pub worth-end : (s : List ℕ) (v i : ℕ) → length s ≤ i → worth_from base v (drop i s) ≡ v
-  unfolding worth_from
-  worth-end s v i h = rw (drop_of_length-le s h)
+pub digit_below : (base b d : ℕ) → Some d ≡ digit_of base b → d < base
+unfolding digit_of is_digit pick
+digit_below base b d = by (ltb 47 b) (ltb b (48 + base)) refl refl
+  where
+    by : (l h : Bool) → ltb 47 b ≡ l → ltb b (48 + base) ≡ h → Some d ≡ pick (l && h) (Some (b - 48)) None → d < base
+    by true true e f g =
+        let k : d ≡ b - 48 = cc in
+        omega (arith, ltb-true 47 b e, ltb-true b (48 + base) f)
+    by true false e f g = cc
+    by false h e f g = cc
 
-  pub worth-more : (s : List ℕ) (v i : ℕ) → i < length s
-      → worth_from base v (drop i s) ≡ worth_from base (v * base + (get_or s i 0 - 48)) (drop (i + 1) s)
-  unfolding worth_from
-  worth-more s v i h = rw (at_place s i h)
+-- so many digits can say so much, of a base up to ten
+pub one_more : (base v d i : ℕ) → base ≤ 10 → v < 10 ^ i → d < base → v * base + d < 10 ^ (i + 1)
+one_more base v d i b h k = omega (arith, mul-le-mul_left v b, ten_more i)
+  where
+    ten_more : (i : ℕ) → 10 ^ (i + 1) ≡ 10 ^ i * 10
+    ten_more i = rw add-one (pow-suc 10 i)
 
-  -- a base up to ten says no more than ten does
-  pub at_most_tenfold : (v : ℕ) → base ≤ 10 → v * base ≤ v * 10
-  at_most_tenfold v h = mul-le-mul_left v h
-
--- what i digits can say, of at most nine
-pub ten_more : (i : ℕ) → 10 ^ (i + 1) ≡ 10 ^ i * 10
-ten_more i = rw add-one (pow-suc 10 i)
-
-pub ten_small : (i : ℕ) → i < 9 → 10 ^ i ≤ 100000000
-ten_small i h = pow-le-pow_right {n = 10} (omega arith) {i = i} {j = 8} (omega arith)
+pub ten_small : (i : ℕ) → i ≤ 9 → 10 ^ i ≤ 1000000000
+ten_small i h = pow-le-pow_right {n = 10} (omega arith) {i = i} {j = 9} (omega arith)
 
 module _ (base most : ℕ) (f : List ℕ) where
-  pub digits_none : length f ≡ 0 → digits_of base most f ≡ Other
+  pub digits_none : length f ≡ 0 → digits_of base most f ≡ None
   unfolding digits_of are_digits pick
   digits_none h = simp h
 
-  pub digits_many : most < length f → digits_of base most f ≡ Other
+  pub digits_many : most < length f → digits_of base most f ≡ None
   unfolding digits_of are_digits pick
   digits_many h = simp (le-ltb (length f) (most + 1) (omega arith), and-false)
 
-  pub digits_other : all_digits base f ≡ false → digits_of base most f ≡ Other
-  unfolding digits_of are_digits pick
-  digits_other h = simp (h, and-false)
-
-  pub digits_worth : 0 < length f → length f ≤ most → all_digits base f ≡ true → digits_of base most f ≡ Worth (worth_from base 0 f)
-  unfolding digits_of are_digits pick
-  digits_worth h l o = simp (lt-ltb 0 (length f) h, lt-ltb (length f) (most + 1) (omega arith), o)
-
-module _ (f : List ℕ) where
-  -- a field whose digits say a value is a number by that value
-  pub number_worth : (v : ℕ) → Worth v ≡ digits_of 8 6 f → number_of f ≡ pick (ltb v 65536) (Value v) NotOne
-  unfolding digits_of number_of is_number worth pick
-  number_worth v = go (are_digits 8 6 f)
-    where
-      go : (t : Bool) → Worth v ≡ pick t (Worth (worth_from 8 0 f)) Other
-          → pick (t && ltb (worth_from 8 0 f) 65536) (Value (worth_from 8 0 f)) NotOne ≡ pick (ltb v 65536) (Value v) NotOne
-      go true e = let w : v ≡ worth_from 8 0 f = cc in simp w
-      go false e = cc
-
-  pub number_other : Other ≡ digits_of 8 6 f → number_of f ≡ NotOne
-  unfolding digits_of number_of is_number worth pick
-  number_other = go (are_digits 8 6 f)
-    where
-      go : (t : Bool) → Other ≡ pick t (Worth (worth_from 8 0 f)) Other
-          → pick (t && ltb (worth_from 8 0 f) 65536) (Value (worth_from 8 0 f)) NotOne ≡ NotOne
-      go true e = cc
-      go false e = refl
+  pub digits_told : 0 < length f → length f ≤ most → digits_of base most f ≡ told_from base 0 f
+  unfolding digits_of are_digits
+  digits_told h l = simp (lt-ltb 0 (length f) h, lt-ltb (length f) (most + 1) (omega arith))
 
 -- what a field's digits come to as a number, and that a field is that
-abbrev pub number_by : Figures → Number
-number_by (Worth v) = pick (ltb v 65536) (Value v) NotOne
-number_by Other = NotOne
+abbrev pub number_by : Option ℕ → Option ℕ
+number_by (Some v) = pick (ltb v 65536) (Some v) None
+number_by None = None
 
 pub number_by_digits : (f : List ℕ) → number_of f ≡ number_by (digits_of 8 6 f)
-number_by_digits f = go (digits_of 8 6 f) refl
+unfolding digits_of number_of is_number worth pick
+number_by_digits f = by (are_digits 8 6 f)
   where
-    go : (d : Figures) → d ≡ digits_of 8 6 f → number_of f ≡ number_by d
-    go (Worth v) e = number_worth f v e
-    go Other e = number_other f e
+    by : (t : Bool) → pick (t && ltb (worth_from 8 0 f) 65536) (Some (worth_from 8 0 f)) None ≡ number_by (pick t (Some (worth_from 8 0 f)) None)
+    by true = refl
+    by false = refl

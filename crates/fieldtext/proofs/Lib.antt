@@ -1,4 +1,4 @@
 -- Laws that several proofs cite.
 pub mod Scan
 pub mod Digits
-pub mod Read
+pub mod Chain

@@ -1,4 +1,3 @@
 -- The definitions that the contracts cite.
 pub mod Cut
 pub mod Number
-pub mod Reading

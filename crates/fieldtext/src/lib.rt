@@ -1,147 +1,79 @@
 // A line's fields, which are cut at each tab, and the numbers in them; and a count, which is read digit by digit like them.
 #![tactic(auto)]
 
-ghost use Rattle.std.specs.Prelude.{◌≡◌, ◌&&◌, ◌≤◌, length};
-ghost use Rattle.fieldtext.specs.Number.{is_digit, digits_of, number_of, decimal_of};
-ghost use Rattle.fieldtext.specs.Cut.{head_of, fields_at, none};
-ghost use Rattle.fieldtext.specs.Reading.{Took};
+ghost use Rattle.std.specs.Prelude.{◌≡◌, ℕ, ◌≤◌, List, length, drop};
+ghost use Rattle.std.specs.Iterator.{AlwaysYields};
+ghost use Rattle.fieldtext.specs.Number.{digit_of, digits_of, number_of, decimal_of, numbers_of};
+ghost use Rattle.fieldtext.specs.Cut.{fields, head_of};
 
-// What digits say: bytes that are no digits of their base, none or too many say nothing.
-#[derive(Clone, Copy)]
-pub enum Figures {
-    Worth(u64),
-    Other,
-}
-
-// What a field says, read as a number.
-#[derive(Clone, Copy)]
-pub enum Number {
-    Value(u16),
-    NotOne,
-}
-
-// A place in the line, past the tab of the number read last; not good once a field was missing or no number.
-#[derive(Clone, Copy)]
-pub struct Reading {
-    pub at: usize,
-    pub good: bool,
-    pub value: u16,
-}
-
-const TAB: u8 = 9;
+const TAB: u8 = b'\t';
 
 // The length of the first field: how many bytes stand before the first tab, or all of them.
 pub fn field_end(s: &[u8]) -> usize
     ensures { (result ≡ length (head_of s.now)) × (result ≤ length s.now) }
 {
-    let mut i = 0;
-    while i < s.len() {
-        if s[i] == TAB {
-            return i;
-        }
-        i += 1;
-    }
-    i
+    s.iter().position(|b| *b == TAB).unwrap_or(s.len())
 }
 
-// The digits of a base up to ten are the bytes from 48 on.
-#[tactic(auto, unfolding(crate::specs::Number::is_digit))]
-fn is_digit(b: u8, base: u64) -> bool
+// The digits of a base up to ten are the bytes from 48 on. (Not `to_digit`, which goes on with letters past 9.)
+#[tactic(auto, unfolding(crate::specs::Number::digit_of, crate::specs::Number::is_digit, rules::specs::Choice::pick))]
+fn digit(b: u8, base: u64) -> Option<u64>
     requires { base ≤ 10 }
-    ensures { result ≡ is_digit base b }
+    ensures { result ≡ digit_of base b }
 {
-    if 47 < b {
-        (b as u64) < 48 + base
-    } else {
-        false
-    }
+    let digit = u64::from(b.checked_sub(b'0')?);
+    (digit < base).then_some(digit)
 }
 
-// What 1 to `most` digits of a base say.
-#[tactic(auto, using(crate::proofs::Digits::digits_none, crate::proofs::Digits::digits_many, crate::proofs::Digits::digit_range))]
-fn read_digits(bytes: &[u8], base: u64, most: usize) -> Figures
+// What 1 to `most` digits of a base say: bytes that are no digits of their base, none or too many say nothing.
+#[tactic(auto, using(crate::proofs::Digits::digits_none, crate::proofs::Digits::digits_many, crate::proofs::Digits::digits_told))]
+fn read_digits(bytes: &[u8], base: u64, most: usize) -> Option<u64>
     requires { (base ≤ 10) × (most ≤ 9) }
     ensures { result ≡ digits_of base most bytes.now }
 {
-    if bytes.len() == 0 {
-        return Figures::Other;
-    }
-    if most < bytes.len() {
-        return Figures::Other;
+    if bytes.is_empty() || most < bytes.len() {
+        return None;
     }
     let mut value = 0;
-    let mut passed = 0;
-    while passed < bytes.len() {
-        let b = bytes[passed];
-        if !is_digit(b, base) {
-            return Figures::Other;
-        }
-        value = value * base + (b - 48) as u64;
-        passed += 1;
+    for b in bytes {
+        value = value * base + digit(*b, base)?;
     }
-    Figures::Worth(value)
+    Some(value)
 }
 
 // "Numbers are 1-6 octal digits up to 177777."
 #[tactic(auto, using(crate::proofs::Digits::number_by_digits), unfolding(rules::specs::Choice::pick))]
-pub fn octal(field: &[u8]) -> Number
+pub fn octal(field: &[u8]) -> Option<u16>
     ensures { result ≡ number_of field.now }
 {
-    let read = read_digits(field, 8, 6);
-    match read {
-        Figures::Worth(value) => {
-            if value < 65536 {
-                Number::Value(value as u16)
-            } else {
-                Number::NotOne
-            }
-        }
-        Figures::Other => Number::NotOne,
-    }
+    u16::try_from(read_digits(field, 8, 6)?).ok()
 }
 
 // A count: "N is 1 to 9 decimal digits." (T-08)
 #[tactic(auto, unfolding(crate::specs::Number::decimal_of))]
-pub fn count(bytes: &[u8]) -> Figures
+pub fn count(bytes: &[u8]) -> Option<u64>
     ensures { result ≡ decimal_of bytes.now }
 {
     read_digits(bytes, 10, 9)
 }
 
-// Reads one more number after those that were read before.
-#[tactic(auto, using(crate::proofs::Read::took_past))]
-pub fn next_number(line: &[u8], before: Reading) -> Reading
-    ensures { Took line.now before result }
+// The numbers in fields, where they are N fields and each is a number.
+fn read_numbers<'a, I: Iterator<Item = &'a [u8]> + Drop, const N: usize>(
+    mut fields: I,
+) -> Option<[u16; N]>
+    requires { I.can_next fields }
+    ensures { (fs : List (List ℕ)) → AlwaysYields I.next_gives (λ f. f.now) fields fs → result ≡ numbers_of N fs }
 {
-    let at = before.at;
-    if line.len() < at {
-        return Reading {
-            at,
-            good: false,
-            value: 0,
-        };
+    let mut words = [0; N];
+    for word in &mut words {
+        *word = octal(fields.next()?)?;
     }
-    let end = at + field_end(&line[at..]);
-    let number = octal(&line[at..end]);
-    match number {
-        Number::Value(value) => Reading {
-            at: end + 1,
-            good: before.good,
-            value,
-        },
-        Number::NotOne => Reading {
-            at: end + 1,
-            good: false,
-            value: 0,
-        },
-    }
+    fields.next().is_none().then_some(words)
 }
 
-// No field is left, and all that were read are numbers.
-#[tactic(auto, using(crate::proofs::Scan::none_left))]
-pub fn finished(line: &[u8], last: Reading) -> bool
-    ensures { result ≡ last.good && none (fields_at line.now last.at) }
+// The numbers in a line's fields past the first, where they are N fields and each is a number.
+pub fn numbers<const N: usize>(line: &[u8]) -> Option<[u16; N]>
+    ensures { result ≡ numbers_of N (drop 1 (fields line.now)) }
 {
-    let at = last.at;
-    if last.good { line.len() < at } else { false }
+    read_numbers(line.split(|b| *b == TAB).skip(1))
 }

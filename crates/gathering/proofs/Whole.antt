@@ -3,22 +3,19 @@ use Prim.Native.Nat.{ℕ, suc, ◌+◌, ◌*◌, ◌≤◌, ◌<◌}
 use mathlib.Core.Path.{◌≡◌, refl, ap, sym, ◌∙◌}
 use mathlib.Core.Bool.{Bool, true, false, ◌&&◌}
 use mathlib.Core.List.{List, [], ◌∷◌, ◌++◌, append-nil, append_assoc}
-use native.Mathlib.Numerals.{add-one}
 use native.Mathlib.Omega.{arith}
-use lib.ListN.{length, get_or, take, length-append, length-set}
+use lib.ListN.{length, get_or, drop, length-append}
 use lib.Dec.{ltb, eqb}
-use lib.Seq.{take-suc-set}
-use borrow.Author.Tests.{le-ltb, lt-ltb, ltb-true, ltb-false, eqb-true}
+use borrow.Author.Tests.{ltb-true, ltb-false, eqb-true}
+use Rattle.std.specs.Prelude.{Some, None}
 use Rattle.rules.specs.Choice.{pick}
 use Rattle.rules.proofs.Laws.Choices.{pick_same, picked}
-use Rattle.fieldtext.specs.Cut.{onto, fields, head_of, fields_at}
-use Rattle.fieldtext.specs.Number.{all_digits, are_digits, worth, is_number}
+use Rattle.fieldtext.specs.Cut.{onto, fields, head_of}
+use Rattle.fieldtext.specs.Number.{all_digits, are_digits, worth, is_number, all_numbers, numbers}
 use Rattle.fieldtext.proofs.Scan.{fields_split}
-use Rattle.fieldtext.proofs.Digits.{and_left, and_right}
-use Rattle.linetext.specs.Line.{all_numbers, numbers, store_of, access_of, trap_of, alone_of, by_letter, by_name, from_fields, line_of}
-use Rattle.linetext.specs.declared.Line.TheVariants.{Bad}
-use Rattle.gathering.specs.Gather.{nothing_yet, push_of, push_all, gathered, line_in}
-use Rattle.gathering.specs.declared.Gather.{Gather}
+use Rattle.std.proofs.lemmas.Bool.{and_parts}
+use Rattle.linetext.specs.Line.{store_of, access_of, trap_of, alone_of, by_letter, by_name, from_fields, line_of}
+use Rattle.gathering.specs.Gather.{Gathered, nothing_yet, push_of, push_all, gathered, line_in}
 
 -- the bytes of the fields, with one tab or end behind each
 total : List (List ℕ) → ℕ
@@ -39,21 +36,22 @@ total_fields (b ∷ s) = by (eqb b 9) (total_fields s)
     by false e =
         let split = fields_split s in
         ap (λ (fs : List (List ℕ)). total (onto b fs)) split
-        ∙ total_onto b (head_of s) (fields_at s (suc (length (head_of s))))
+        ∙ total_onto b (head_of s) (drop 1 (fields s))
         ∙ ap suc (ap total (sym split) ∙ e)
 
 number_short : (f : List ℕ) → is_number f ≡ true → length f < 7
 unfolding is_number are_digits
 number_short f e =
-    let two = and_left (ltb 0 (length f) && ltb (length f) 7) (all_digits 8 f) (and_left (are_digits 8 6 f) (ltb (worth f) 65536) e) in
-    ltb-true (length f) 7 (and_right (ltb 0 (length f)) (ltb (length f) 7) two)
+    let two = (and_parts (ltb 0 (length f) && ltb (length f) 7) (all_digits 8 f) (and_parts (are_digits 8 6 f) (ltb (worth f) 65536) e).0).0 in
+    ltb-true (length f) 7 (and_parts (ltb 0 (length f)) (ltb (length f) 7) two).1
 
 numbers-short : (fs : List (List ℕ)) → all_numbers fs ≡ true → total fs ≤ 7 * length fs
 unfolding total all_numbers
 numbers-short [] e = omega arith
 numbers-short (f ∷ fs) e =
-    let h = number_short f (and_left (is_number f) (all_numbers fs) e) in
-    let i = numbers-short fs (and_right (is_number f) (all_numbers fs) e) in
+    let all = and_parts (is_number f) (all_numbers fs) e in
+    let h = number_short f all.0 in
+    let i = numbers-short fs all.1 in
     omega arith
 
 no_numbers : (n : ℕ) (fs : List (List ℕ)) → n ≤ 5 → 35 < total fs → numbers n fs ≡ false
@@ -63,66 +61,62 @@ no_numbers n fs h k = by (eqb (length fs) n && all_numbers fs) refl
     by : (t : Bool) → (eqb (length fs) n && all_numbers fs) ≡ t → t ≡ false
     by false e = refl
     by true e =
-        let l = eqb-true (length fs) n (and_left (eqb (length fs) n) (all_numbers fs) e) in
-        let s = numbers-short fs (and_right (eqb (length fs) n) (all_numbers fs) e) in
+        let all = and_parts (eqb (length fs) n) (all_numbers fs) e in
+        let l = eqb-true (length fs) n all.0 in
+        let s = numbers-short fs all.1 in
         let z : ⊥ = omega arith in
         absurd z
 
-letter_long : (b : ℕ) (fs : List (List ℕ)) → 35 < total fs → by_letter b fs ≡ Bad
+letter_long : (b : ℕ) (fs : List (List ℕ)) → 35 < total fs → by_letter b fs ≡ None
 unfolding by_letter store_of access_of trap_of alone_of pick
 letter_long b fs k =
     simp (no_numbers 0 fs (omega arith) k, no_numbers 1 fs (omega arith) k, no_numbers 2 fs (omega arith) k, no_numbers 5 fs (omega arith) k, pick_same)
 
-name_long : (name : List ℕ) (fs : List (List ℕ)) → 36 < length name + total fs → by_name name fs ≡ Bad
+name_long : (name : List ℕ) (fs : List (List ℕ)) → 36 < length name + total fs → by_name name fs ≡ None
 unfolding by_name pick
 name_long name fs k = by (eqb (length name) 1) refl
   where
-    by : (t : Bool) → eqb (length name) 1 ≡ t → pick t (by_letter (get_or name 0 0) fs) Bad ≡ Bad
+    by : (t : Bool) → eqb (length name) 1 ≡ t → pick t (by_letter (get_or name 0 0) fs) None ≡ None
     by true e =
         let one = eqb-true (length name) 1 e in
         letter_long (get_or name 0 0) fs (omega arith)
     by false e = refl
 
 -- no good line has more than 36 bytes
-pub long_bad : (s : List ℕ) → 36 < length s → line_of s ≡ Bad
+pub long_bad : (s : List ℕ) → 36 < length s → line_of s ≡ None
 unfolding line_of from_fields total
 long_bad s h =
     let name : List ℕ = head_of s in
-    let rest : List (List ℕ) = fields_at s (suc (length name)) in
+    let rest : List (List ℕ) = drop 1 (fields s) in
     let all : suc (length name) + total rest ≡ suc (length s) = ap total (sym (fields_split s)) ∙ total_fields s in
     ap from_fields (fields_split s) ∙ name_long name rest (omega arith)
 
 -- what a gather holds of the line p that was pushed: all of it, or that it was too long
-data Held (p : List ℕ) (g : Gather) : Type 0 where
-  kept : g.len ≡ length p → length p ≤ 40 → take g.len g.buf ≡ p → length g.buf ≡ 40 → Held p g
-  lost : 40 < g.len → 40 < length p → Held p g
+data Held (p : List ℕ) : Gathered → Type 0 where
+  kept : length p ≤ 40 → Held p (Some p)
+  lost : 40 < length p → Held p None
 
-held_push : (p : List ℕ) (g : Gather) (b : ℕ) → Held p g → Held (p ++ b ∷ []) (push_of g b)
+held_push : (p : List ℕ) (g : Gathered) (b : ℕ) → Held p g → Held (p ++ b ∷ []) (push_of g b)
 unfolding push_of
-held_push p g b (kept l w t z) =
+held_push p _ b (kept h) =
     let longer = length-append p (b ∷ []) in
-    picked (Held (p ++ b ∷ [])) (ltb g.len 40) _ _
-    (λ e.
-    let room : g.len < length g.buf = omega (arith, ltb-true g.len 40 e) in
-    kept (omega arith) (omega (arith, ltb-true g.len 40 e)) (simp (add-one, take-suc-set g.buf g.len b room, t))
-    (length-set g.buf g.len b ∙ z))
-    (λ e. lost (omega arith) (omega (arith, ltb-false g.len 40 e)))
-held_push p g b (lost l h) =
-    let longer = length-append p (b ∷ []) in
-    picked (Held (p ++ b ∷ [])) (ltb g.len 40) _ _ (λ e. lost (omega (arith, ltb-true g.len 40 e)) (omega arith)) (λ e. lost (omega arith) (omega arith))
+    picked (Held (p ++ b ∷ [])) (ltb (length p) 40) _ _
+    (λ e. kept (omega (arith, ltb-true (length p) 40 e)))
+    (λ e. lost (omega (arith, ltb-false (length p) 40 e)))
+held_push p _ b (lost h) = let longer = length-append p (b ∷ []) in lost (omega arith)
 
-held_all : (s p : List ℕ) (g : Gather) → Held p g → Held (p ++ s) (push_all g s)
+held_all : (s p : List ℕ) (g : Gathered) → Held p g → Held (p ++ s) (push_all g s)
 unfolding push_all
 held_all [] p g h = rw append-nil h
 held_all (b ∷ s) p g h = rw append_assoc at (held_all s (p ++ b ∷ []) (push_of g b) (held_push p g b h))
 
 -- a gather that holds a line asks for what the line asks for
-held_line : (p : List ℕ) (g : Gather) → Held p g → line_in g ≡ line_of p
-unfolding line_in pick
-held_line p g (kept l w t z) = simp (le-ltb 40 g.len (omega arith), t)
-held_line p g (lost l h) = simp (lt-ltb 40 g.len l) (sym (long_bad p (omega arith)))
+held_line : (p : List ℕ) (g : Gathered) → Held p g → line_in g ≡ line_of p
+unfolding line_in
+held_line p _ (kept h) = refl
+held_line p _ (lost h) = sym (long_bad p (omega arith))
 
 -- whatever the line, what is gathered of it asks for what it asks for
 pub whole : (s : List ℕ) → line_in (gathered s) ≡ line_of s
 unfolding gathered nothing_yet
-whole s = held_line s (gathered s) (held_all s [] nothing_yet (kept refl (omega arith) refl refl))
+whole s = held_line s (gathered s) (held_all s [] nothing_yet (kept (omega arith)))

@@ -2,56 +2,61 @@
 #![tactic(auto)]
 
 ghost use Rattle.std.specs.Prelude.{◌≡◌};
+ghost use Rattle.std.specs.Option.{option_map};
 ghost use Rattle.gathering.specs.Gather.{nothing_yet, push_of, line_in};
 
+use fewbytes::FewBytes;
 use linetext::Line;
+use std::marker::Model;
 
-// The bytes of a line so far: the first `len` of `buf`, or, where `len` is above 40, more than it holds.
-#[derive(Clone, Copy)]
+// The bytes of a line so far; of a line that is longer than 40 bytes, none of them.
+#[derive(Clone, Drop)]
 pub struct Gather {
-    pub buf: [u8; 40],
-    pub len: usize,
+    bytes: Option<FewBytes<40>>,
 }
 
-// The length that says that the line is longer than the bytes.
-const TOO_LONG: usize = 41;
+impl Model for Gather {
+    ghost use Rattle.std.specs.Prelude.{ℕ, Option, List};
 
-// No byte of a line yet.
-#[tactic(auto, unfolding(crate::specs::Gather::nothing_yet))]
-pub fn nothing() -> Gather
-    ensures { result ≡ nothing_yet }
-{
-    Gather {
-        buf: [0u8; 40],
-        len: 0,
-    }
+    ghost Value = { Option (List ℕ) };
+
+    ghost view = { λ g. g.bytes };
 }
 
-// One more byte of the line, which is no newline. A byte that finds no room makes the line too long and is dropped.
-#[tactic(auto, unfolding(crate::specs::Gather::push_of, rules::specs::Choice::pick))]
-pub fn push(g: Gather, b: u8) -> Gather
-    ensures { result ≡ push_of g b }
-{
-    let at = g.len;
-    let mut out = g;
-    if at < 40 {
-        out.buf[at] = b;
-        out.len = at + 1;
-        return out;
+impl Gather {
+    // No byte of a line yet.
+    #[tactic(auto, unfolding(crate::specs::Gather::nothing_yet))]
+    pub fn new() -> Self
+        ensures { result ≡ nothing_yet }
+    {
+        Gather {
+            bytes: Some(FewBytes::new()),
+        }
     }
-    out.len = TOO_LONG;
-    out
-}
 
-// What the gathered line asks for.
-#[tactic(auto, unfolding(crate::specs::Gather::line_in, rules::specs::Choice::pick))]
-pub fn line_in(g: Gather) -> Line
-    ensures { result ≡ line_in g }
-{
-    let len = g.len;
-    let buf = g.buf;
-    if 40 < len {
-        return Line::Bad;
+    // One more byte of the line, which is no newline. A byte that finds no room makes the line too long and is dropped.
+    #[tactic(auto, unfolding(crate::specs::Gather::push_of, rules::specs::Choice::pick))]
+    pub fn push(&mut self, b: u8)
+        ensures { self.new ≡ push_of self.old b }
+    {
+        match &mut self.bytes {
+            Some(bytes) if !bytes.is_full() => bytes.push(b),
+            _ => self.bytes = None,
+        }
     }
-    linetext::parse(&buf[..len])
+
+    // The bytes of the line, if it is not too long.
+    pub fn bytes(&self) -> Option<&[u8]>
+        ensures { option_map (λ s. s.now) result ≡ self.now }
+    {
+        self.bytes.as_ref().map(|bytes| bytes.as_slice())
+    }
+
+    // What the gathered line asks for.
+    #[tactic(auto, unfolding(crate::specs::Gather::line_in))]
+    pub fn line(&self) -> Option<Line>
+        ensures { result ≡ line_in self.now }
+    {
+        linetext::parse(self.bytes()?)
+    }
 }

@@ -5,8 +5,7 @@ use mathlib.Core.Bool.{true, false}
 use mathlib.Core.List.{List, ◌++◌}
 use lib.ListN.{length, drop}
 use Rattle.rules.specs.declared.Call.{Call}
-use Rattle.rules.specs.declared.Unit.{Unit}
-use Rattle.rules.specs.declared.Reply.{Reply}
+use Rattle.rules.specs.declared.Outcome.{Outcome}
 use Rattle.rules.specs.Choice.{pick}
 use Rattle.rules.specs.Memory.{Memory}
 use Rattle.rules.specs.Answers.{shown}
@@ -20,31 +19,11 @@ use Rattle.coding.specs.Coding.{core_count, unit_words, is_unit, core_of, cells_
 use Rattle.rules.proofs.Laws.Choices.{picked}
 use Rattle.coding.proofs.Laws.{cells_stay}
 use Rattle.coding.proofs.Stays.{unit-stays}
-use Rattle.quick.specs.declared.Attempt.{Attempt}
-use Rattle.quick.specs.Usual.{usual, Sound}
+use Rattle.quick.specs.Usual.{usual, IsOutcome}
 use Rattle.replies.specs.Replies.{reply_word, no_unit}
 use Rattle.kt11b.specs.Doors.{words_after, memory_after, reply_after}
 
--- u the unit that the words are, r what the call gave, o the words written, a the reply's number
-module _ (m : Memory) (w : List ℕ) (c : Call) (u : Unit) (r : Reply) (is : is_unit w ≡ true) (du : u ≡ decoded w) (called : r ≡ (call_of m u c).reply) where
-  pub unit-words : (o : List ℕ) → o ≡ coded r.unit → o ≡ words_after m w c
-  unfolding words_after pick
-  unit-words o e = e ∙ rw called (rw du (rw is))
-
-  pub unit-reply : (a : ℕ) → a ≡ reply_word (shown r.answer) → a ≡ reply_after m w c
-  unfolding reply_after pick
-  unit-reply a e = e ∙ rw called (rw du (rw is))
-
 module _ (m : Memory) (w : List ℕ) (c : Call) where
-  -- words, memory and reply at once: o the words written, n memory after the call, a the reply's number
-  pub unit-all :
-      (o : List ℕ) (n : Memory) (a : ℕ) → is_unit w ≡ true
-      → (o ≡ coded (call_of m (decoded w) c).reply.unit) × ((n ≡ (call_of m (decoded w) c).memory) × (a ≡ reply_word (shown (call_of m (decoded w) c).reply.answer)))
-      → (o ≡ words_after m w c) × ((n ≡ memory_after m w c) × (a ≡ reply_after m w c))
-  unfolding memory_after pick
-  unit-all o n a is h =
-      (unit-words m w c (decoded w) _ is refl refl o h.0, (h.1.0 ∙ rw is, unit-reply m w c (decoded w) _ is refl refl a h.1.1))
-
   pub stay_words : is_unit w ≡ false → w ≡ words_after m w c
   unfolding words_after pick
   stay_words is = rw is
@@ -62,34 +41,34 @@ pub unit-after : (m : Memory) (w : List ℕ) (c : Call) → is_unit (words_after
 unfolding words_after
 unit-after m w c = picked (λ (o : List ℕ). is_unit o ≡ is_unit w) (is_unit w) _ _ (λ is. unit-stays m w c is ∙ sym is) (λ is. refl)
 
--- An attempt that is done, at the core of a unit's words: a the attempt, o the words written.
-module _ (m : Memory) (w : List ℕ) (q : Access) (a : Attempt) (is : is_unit w ≡ true) (s : Sound a m (λ r. accessed m (decoded w).cells.size (decoded w).core r q) (decoded w).cells) (over : a.done ≡ true) where
+-- An outcome of the attempt, at the core of a unit's words: a the outcome, o the words written.
+module _ (m : Memory) (w : List ℕ) (q : Access) (a : Outcome) (is : is_unit w ≡ true) (s : IsOutcome a m (λ r. accessed m (decoded w).cells.size (decoded w).core r q) (decoded w).cells) where
   quick_call :
       call_of m (decoded w) (Call.Access q)
-      ≡ record { reply = record { answer = a.outcome.answer; unit = record { core = a.outcome.core; maps = (decoded w).maps; cells = (decoded w).cells } }; memory = effectOn a.outcome.effect m }
+      ≡ record { reply = record { answer = a.answer; unit = record { core = a.core; maps = (decoded w).maps; cells = (decoded w).cells } }; memory = effectOn a.effect m }
   unfolding call_of called settled
-  quick_call = simp (s.runs over (decoded w).maps, (s.quiet over).maps, (s.quiet over).cells)
+  quick_call = simp (s.runs (decoded w).maps, s.quiet.maps, s.quiet.cells)
 
-  pub quick_memory : (n : Memory) → n ≡ effectOn a.outcome.effect m → n ≡ memory_after m w (Call.Access q)
+  pub quick_memory : (n : Memory) → n ≡ effectOn a.effect m → n ≡ memory_after m w (Call.Access q)
   unfolding memory_after pick
   quick_memory n e = e ∙ sym (rw is (ap (λ (x : After). x.memory) quick_call))
 
-  pub quick_reply : (n : ℕ) → n ≡ reply_word (shown a.outcome.answer) → n ≡ reply_after m w (Call.Access q)
+  pub quick_reply : (n : ℕ) → n ≡ reply_word (shown a.answer) → n ≡ reply_after m w (Call.Access q)
   unfolding reply_after pick
   quick_reply n e = e ∙ sym (rw is (ap (λ (x : After). reply_word (shown x.reply.answer)) quick_call))
 
   pub quick_words :
-      (o : List ℕ) → length w ≡ unit_words → o ≡ core_words a.outcome.core (decoded w).maps ++ drop core_count w → o ≡ words_after m w (Call.Access q)
+      (o : List ℕ) → length w ≡ unit_words → o ≡ core_words a.core (decoded w).maps ++ drop core_count w → o ≡ words_after m w (Call.Access q)
   unfolding words_after coded pick
   quick_words o long e =
       e ∙ rw (cells_stay w long is) (sym (rw is (ap (λ (x : After). core_words x.reply.unit.core x.reply.unit.maps ++ cells_words x.reply.unit.cells) quick_call)))
 
--- What an attempt owes at the core and the cells of a unit's words.
+-- What an outcome owes at the core and the cells of a unit's words.
 pub owed_at :
-    (m : Memory) (w : List ℕ) (q : Access) (a : Attempt) (c : Core) (k : Cells) → c ≡ core_of w → k ≡ cells_of w
-    → usual (length m) c q ≡ true → (usual (length m) c q ≡ true → Sound a m (λ r. accessed m k.size c r q) k)
-    → Sound a m (λ r. accessed m (decoded w).cells.size (decoded w).core r q) (decoded w).cells
+    (m : Memory) (w : List ℕ) (q : Access) (a : Outcome) (c : Core) (k : Cells) → c ≡ core_of w → k ≡ cells_of w
+    → usual (length m) c q ≡ true → (usual (length m) c q ≡ true → IsOutcome a m (λ r. accessed m k.size c r q) k)
+    → IsOutcome a m (λ r. accessed m (decoded w).cells.size (decoded w).core r q) (decoded w).cells
 unfolding decoded
 owed_at m w q a c k ce ke usually s =
-    subst (λ (x : Core). Sound a m (λ r. accessed m (cells_of w).size x r q) (cells_of w)) ce
-    (subst (λ (x : Cells). Sound a m (λ r. accessed m x.size c r q) x) ke (s usually))
+    subst (λ (x : Core). IsOutcome a m (λ r. accessed m (cells_of w).size x r q) (cells_of w)) ce
+    (subst (λ (x : Cells). IsOutcome a m (λ r. accessed m x.size c r q) x) ke (s usually))

@@ -2,18 +2,19 @@
 // No function requires anything: a call or a reading answers words that don't hold a unit by 70, and they stay as they are. The C header is host/include/kt11b.h.
 #![tactic(auto)]
 
-ghost use Rattle.std.specs.Prelude.{◌≡◌};
+ghost use Rattle.std.specs.Prelude.{◌≡◌, Some};
 ghost use Rattle.rules.specs.declared.Call.{Call};
 ghost use Rattle.rules.specs.Memory.{Memory};
 ghost use Rattle.rules.specs.Calls.{call_of};
 ghost use Rattle.rules.specs.Unit.{size_of};
 ghost use Rattle.rules.specs.Answers.{shown, making_shown};
-ghost use Rattle.coding.specs.Coding.{decoded, coded};
+ghost use Rattle.coding.specs.Coding.{decoded, unit_in, coded};
 ghost use Rattle.replies.specs.Replies.{reply_word};
 ghost use Rattle.panel.specs.Panel.{register_read, count_read, tag_read, word_read, counter_read, wait_read, page_place};
-ghost use Rattle.kt11b.specs.Doors.{words_made, words_after, memory_after, reply_after};
+ghost use Rattle.kt11b.specs.Doors.{words_made, words_after, memory_after, reply_after, IsCall};
 
-use rules::{Access, Making, Reply};
+use replies::Refusal;
+use rules::{Access, Reply, Unit};
 
 // Calls ----------------------------------------------------------------------------------------------------------------
 
@@ -26,68 +27,54 @@ pub extern "C" fn kt11b_fresh(unit: &mut [u16; coding::WORDS], cells: u64) -> u6
     ensures reply { result ≡ reply_word (making_shown (size_of cells)) }
 {
     let how = sizes::size_of(cells);
-    let reply = replies::making_replied(how);
-    match how {
-        Making::With(size) => {
-            let after = coding::coded(unit::fresh(size));
-            *unit = after;
-            reply
-        }
-        Making::OtherCount => reply,
+    if let Some(size) = how {
+        coding::store(unit, &unit::fresh(size));
     }
+    replies::making_replied(how)
 }
 
 // The unit that a call leaves goes back into its words, and its answer to the host.
-fn put_back(unit: &mut [u16; coding::WORDS], reply: Reply) -> u64
-    ensures words { unit.new ≡ coded reply.unit }
-    ensures answer { result ≡ reply_word (shown reply.answer) }
+fn put_back(unit: &mut [u16; coding::WORDS], reply: &Reply) -> u64
+    ensures words { unit.new ≡ coded reply.now.unit }
+    ensures answer { result ≡ reply_word (shown reply.now.answer) }
 {
-    let u = reply.unit;
-    let after = coding::coded(u);
-    *unit = after;
-    let answer = reply.answer;
-    replies::replied(answer)
+    coding::store(unit, &reply.unit);
+    replies::replied(reply.answer)
 }
 
-// An access by all its steps, of the unit that the words hold: whether they hold one was asked before.
+// An access by all its steps, of the unit that the words hold: whether they hold one was asked before. It stays out of the usual access's frame.
+#[inline(never)]
 fn by_steps(unit: &mut [u16; coding::WORDS], memory: &mut [u8], q: Access) -> u64
     ensures words { unit.new ≡ coded (call_of memory.old (decoded unit.old) (Call.Access q)).reply.unit }
     ensures memory { memory.new ≡ (call_of memory.old (decoded unit.old) (Call.Access q)).memory }
     ensures reply { result ≡ reply_word (shown (call_of memory.old (decoded unit.old) (Call.Access q)).reply.answer) }
 {
-    let reply = unit::access(coding::decoded(*unit), memory, q);
-    put_back(unit, reply)
+    let reply = unit::access(coding::decoded(unit), memory, q);
+    put_back(unit, &reply)
 }
 
-// An access as it comes: the usual one on the core alone, any other by all its steps.
+// An access as it comes: the usual one on the core alone, any other by all its steps. The core is read without the rest of the unit, for speed: to
+// decode all of it here was slower.
 #[tactic(auto, unfolding(crate::specs::Doors::words_after, crate::specs::Doors::memory_after, crate::specs::Doors::reply_after, rules::specs::Choice::pick))]
 fn by_sort(unit: &mut [u16; coding::WORDS], memory: &mut [u8], q: Access) -> u64
     ensures words { unit.new ≡ words_after memory.old unit.old (Call.Access q) }
     ensures memory { memory.new ≡ memory_after memory.old unit.old (Call.Access q) }
     ensures reply { result ≡ reply_after memory.old unit.old (Call.Access q) }
 {
-    let w = *unit;
-    if coding::is_unit(w) {
-        let c = coding::core_of(w);
-        if quick::usual(memory.len(), c, q) {
-            let k = coding::cells_of(w);
-            let a = quick::attempted(memory, c, q, k);
-            if a.done {
-                let o = a.outcome;
-                let e = o.effect;
-                unit::store(memory, e);
-                let core = o.core;
-                let after = coding::with_core(w, core, coding::maps_of(w));
-                *unit = after;
-                let answer = o.answer;
-                return replies::replied(answer);
-            }
-            return by_steps(unit, memory, q);
-        }
-        return by_steps(unit, memory, q);
+    if !coding::is_unit(unit) {
+        // Words that don't hold a unit stay as they are.
+        return replies::refused(Refusal::NoUnit);
     }
-    // Words that don't hold a unit stay as they are.
-    replies::no_unit()
+    let c = coding::core_of(unit);
+    if quick::usual(memory.len(), c, q)
+        && let Some(o) = quick::attempted(memory, c, q, &coding::cells_of(unit))
+    {
+        unit::store(memory, o.effect);
+        let maps = coding::maps_of(unit);
+        coding::store_core(unit, &o.core, maps);
+        return replies::replied(o.answer);
+    }
+    by_steps(unit, memory, q)
 }
 
 #[unsafe(no_mangle)]
@@ -114,46 +101,43 @@ pub extern "C" fn kt11b_access(
     by_sort(unit, memory, q)
 }
 
-#[tactic(auto, unfolding(crate::specs::Doors::words_after, crate::specs::Doors::reply_after, rules::specs::Choice::pick))]
+// A call that leaves memory alone, of the unit that the words hold, if they hold one.
+#[tactic(auto, unfolding(coding::specs::Coding::unit_in, rules::specs::Choice::pick))]
+fn called<F: FnOnce(Unit) -> Reply>(unit: &mut [u16; coding::WORDS], call: F) -> u64
+    requires { (u : Unit) → unit_in unit.old ≡ Some u → F.pre call u }
+    ensures { IsCall (F.post call) unit.old unit.new result }
+{
+    let Some(u) = coding::unit_in(unit) else {
+        return replies::refused(Refusal::NoUnit);
+    };
+    put_back(unit, &call(u))
+}
+
+#[tactic(auto, unfolding(crate::specs::Doors::words_after, crate::specs::Doors::reply_after, coding::specs::Coding::unit_in, rules::specs::Choice::pick))]
 #[unsafe(no_mangle)]
 pub extern "C" fn kt11b_interrupt(unit: &mut [u16; coding::WORDS]) -> u64
     ensures words { (m : Memory) → unit.new ≡ words_after m unit.old Call.Interrupt }
     ensures reply { (m : Memory) → result ≡ reply_after m unit.old Call.Interrupt }
 {
-    let w = *unit;
-    if coding::is_unit(w) {
-        let reply = unit::interrupt(coding::decoded(w));
-        return put_back(unit, reply);
-    }
-    replies::no_unit()
+    called(unit, unit::interrupt)
 }
 
-#[tactic(auto, unfolding(crate::specs::Doors::words_after, crate::specs::Doors::reply_after, rules::specs::Choice::pick))]
+#[tactic(auto, unfolding(crate::specs::Doors::words_after, crate::specs::Doors::reply_after, coding::specs::Coding::unit_in, rules::specs::Choice::pick))]
 #[unsafe(no_mangle)]
 pub extern "C" fn kt11b_trap(unit: &mut [u16; coding::WORDS], vector: u64) -> u64
     ensures words { (m : Memory) → unit.new ≡ words_after m unit.old (Call.Trap vector) }
     ensures reply { (m : Memory) → result ≡ reply_after m unit.old (Call.Trap vector) }
 {
-    let w = *unit;
-    if coding::is_unit(w) {
-        let reply = unit::trap(coding::decoded(w), vector);
-        return put_back(unit, reply);
-    }
-    replies::no_unit()
+    called(unit, |u| unit::trap(u, vector))
 }
 
-#[tactic(auto, unfolding(crate::specs::Doors::words_after, crate::specs::Doors::reply_after, rules::specs::Choice::pick))]
+#[tactic(auto, unfolding(crate::specs::Doors::words_after, crate::specs::Doors::reply_after, coding::specs::Coding::unit_in, rules::specs::Choice::pick))]
 #[unsafe(no_mangle)]
 pub extern "C" fn kt11b_init(unit: &mut [u16; coding::WORDS]) -> u64
     ensures words { (m : Memory) → unit.new ≡ words_after m unit.old Call.Init }
     ensures reply { (m : Memory) → result ≡ reply_after m unit.old Call.Init }
 {
-    let w = *unit;
-    if coding::is_unit(w) {
-        let reply = unit::init(coding::decoded(w));
-        return put_back(unit, reply);
-    }
-    replies::no_unit()
+    called(unit, unit::init)
 }
 
 // Readings, which change nothing ---------------------------------------------------------------------------------------
@@ -163,7 +147,7 @@ pub extern "C" fn kt11b_init(unit: &mut [u16; coding::WORDS]) -> u64
 pub extern "C" fn kt11b_register(unit: &[u16; coding::WORDS], number: usize) -> u64
     ensures { result ≡ register_read unit.now number }
 {
-    panel::register_read(*unit, number)
+    panel::register_read(unit, number)
 }
 
 // How many cells the unit has.
@@ -171,28 +155,28 @@ pub extern "C" fn kt11b_register(unit: &[u16; coding::WORDS], number: usize) -> 
 pub extern "C" fn kt11b_cells(unit: &[u16; coding::WORDS]) -> u64
     ensures { result ≡ count_read unit.now }
 {
-    panel::count_read(*unit)
+    panel::count_read(unit)
 }
 
 #[unsafe(no_mangle)]
 pub extern "C" fn kt11b_cell_tag(unit: &[u16; coding::WORDS], index: usize) -> u64
     ensures { result ≡ tag_read unit.now index }
 {
-    panel::tag_read(*unit, index)
+    panel::tag_read(unit, index)
 }
 
 #[unsafe(no_mangle)]
 pub extern "C" fn kt11b_cell_word(unit: &[u16; coding::WORDS], index: usize) -> u64
     ensures { result ≡ word_read unit.now index }
 {
-    panel::word_read(*unit, index)
+    panel::word_read(unit, index)
 }
 
 #[unsafe(no_mangle)]
 pub extern "C" fn kt11b_counter(unit: &[u16; coding::WORDS]) -> u64
     ensures { result ≡ counter_read unit.now }
 {
-    panel::counter_read(*unit)
+    panel::counter_read(unit)
 }
 
 // 0 nothing, 1 and 2 the SERVICE DATOs, 3 the second START read.
@@ -200,7 +184,7 @@ pub extern "C" fn kt11b_counter(unit: &[u16; coding::WORDS]) -> u64
 pub extern "C" fn kt11b_wait(unit: &[u16; coding::WORDS]) -> u64
     ensures { result ≡ wait_read unit.now }
 {
-    panel::wait_read(*unit)
+    panel::wait_read(unit)
 }
 
 // Where the page that a map register's word names begins, in a memory of this length, or the number that says that there is none.

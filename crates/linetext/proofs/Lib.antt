@@ -1,4 +1,4 @@
 -- Laws that several proofs cite, and lines worked by the definition.
-pub mod Chain
-pub mod Lines
+pub mod Letters
+pub mod Numbers
 pub mod Worked

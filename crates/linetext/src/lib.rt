@@ -1,109 +1,68 @@
 // One line of the bench program's input, without its newline: a letter and then octal numbers, with tabs between.
 #![tactic(auto)]
 
-ghost use Rattle.std.specs.Prelude.{◌≡◌, true};
-ghost use Rattle.fieldtext.specs.Cut.{fields_at};
-ghost use Rattle.fieldtext.specs.Reading.{Took};
+ghost use Rattle.std.specs.Prelude.{◌≡◌, drop};
+ghost use Rattle.fieldtext.specs.Cut.{fields};
 ghost use Rattle.linetext.specs.Line.{line_of, store_of, access_of, trap_of, alone_of, by_letter};
-ghost use Rattle.linetext.specs.Asked.{access_in};
 
-use fieldtext::Reading;
+use rules::Access;
 
-// `A` operation state width address data, as the line has them.
-#[derive(Clone, Copy)]
-pub struct Fields {
-    pub op: u16,
-    pub state: u16,
-    pub width: u16,
-    pub addr: u16,
-    pub datum: u16,
-}
-
-// What a line asks for; anything that is no line of these is bad.
+// What a line asks for.
 #[derive(Clone, Copy)]
 pub enum Line {
     Store(u16, u16),
-    Access(Fields),
+    Access(Access),
     Interrupt,
     Trap(u16),
     Init,
-    Bad,
-}
-
-// The numbers start past the letter and its tab.
-fn first_number(line: &[u8]) -> Reading
-    ensures { Took line.now (record { at = 2; good = true; value = 0 }) result }
-{
-    fieldtext::next_number(
-        line,
-        Reading {
-            at: 2,
-            good: true,
-            value: 0,
-        },
-    )
 }
 
 // "`W` address value (even, one memory word)"
-fn store(line: &[u8]) -> Line
-    ensures { result ≡ store_of (fields_at line.now 2) }
+#[tactic(auto, using(crate::proofs::Numbers::store_read), unfolding(rules::specs::Choice::pick))]
+fn store(line: &[u8]) -> Option<Line>
+    ensures { result ≡ store_of (drop 1 (fields line.now)) }
 {
-    let addr = first_number(line);
-    let word = fieldtext::next_number(line, addr);
-    if fieldtext::finished(line, word) {
-        if addr.value % 2 == 0 {
-            return Line::Store(addr.value, word.value);
-        }
-    }
-    Line::Bad
+    let [addr, word] = fieldtext::numbers::<2>(line)?;
+    (addr % 2 == 0).then_some(Line::Store(addr, word))
 }
 
 // "`A` operation state width address data"
-fn access(line: &[u8]) -> Line
-    ensures { result ≡ access_of (fields_at line.now 2) }
+#[tactic(auto, using(crate::proofs::Numbers::access_read))]
+fn access(line: &[u8]) -> Option<Line>
+    ensures { result ≡ access_of (drop 1 (fields line.now)) }
 {
-    let op = first_number(line);
-    let state = fieldtext::next_number(line, op);
-    let width = fieldtext::next_number(line, state);
-    let addr = fieldtext::next_number(line, width);
-    let datum = fieldtext::next_number(line, addr);
-    if fieldtext::finished(line, datum) {
-        Line::Access(Fields {
-            op: op.value,
-            state: state.value,
-            width: width.value,
-            addr: addr.value,
-            datum: datum.value,
-        })
-    } else {
-        Line::Bad
-    }
+    let [op, state, width, addr, datum] = fieldtext::numbers::<5>(line)?;
+    Some(Line::Access(Access {
+        op: u64::from(op),
+        state: u64::from(state),
+        width: u64::from(width),
+        addr,
+        datum,
+    }))
 }
 
 // "`T` vector"
-fn trap(line: &[u8]) -> Line
-    ensures { result ≡ trap_of (fields_at line.now 2) }
+#[tactic(auto, using(crate::proofs::Numbers::trap_read))]
+fn trap(line: &[u8]) -> Option<Line>
+    ensures { result ≡ trap_of (drop 1 (fields line.now)) }
 {
-    let vector = first_number(line);
-    if fieldtext::finished(line, vector) {
-        Line::Trap(vector.value)
-    } else {
-        Line::Bad
-    }
+    let [vector] = fieldtext::numbers::<1>(line)?;
+    Some(Line::Trap(vector))
 }
 
 // "`I` (interrupt)", "`X` (INIT)": the letter is the whole line.
-#[tactic(auto, using(crate::proofs::Chain::alone_end), unfolding(crate::specs::Line::alone_of, rules::specs::Choice::pick))]
-fn alone(line: &[u8], asks: Line) -> Line
-    ensures { result ≡ alone_of asks (fields_at line.now 2) }
+#[tactic(auto, using(crate::proofs::Numbers::alone_read))]
+fn alone(line: &[u8], asks: Line) -> Option<Line>
+    ensures { result ≡ alone_of asks (drop 1 (fields line.now)) }
 {
-    if line.len() < 2 { asks } else { Line::Bad }
+    let [] = fieldtext::numbers::<0>(line)?;
+    Some(asks)
 }
 
 // What the letter asks for, with the numbers after it.
 #[tactic(auto, unfolding(crate::specs::Line::by_letter, rules::specs::Choice::pick))]
-fn by_letter(line: &[u8], letter: u8) -> Line
-    ensures { result ≡ by_letter letter (fields_at line.now 2) }
+fn by_letter(letter: u8, line: &[u8]) -> Option<Line>
+    ensures { result ≡ by_letter letter (drop 1 (fields line.now)) }
 {
     match letter {
         b'W' => store(line),
@@ -111,29 +70,18 @@ fn by_letter(line: &[u8], letter: u8) -> Line
         b'I' => alone(line, Line::Interrupt),
         b'T' => trap(line),
         b'X' => alone(line, Line::Init),
-        _ => Line::Bad,
+        _ => None,
     }
 }
 
-// What a line asks for. A carriage return, a blank or a tab too many leaves a field that is no letter or no number, or one field too many.
-pub fn parse(line: &[u8]) -> Line
+// What a line asks for, unless it is bad. A carriage return, a blank or a tab too many leaves a field that is no letter or no number, or one
+// field too many.
+#[tactic(auto, using(crate::proofs::Letters::line_letter, crate::proofs::Letters::line_empty, crate::proofs::Letters::line_longer))]
+pub fn parse(line: &[u8]) -> Option<Line>
     ensures { result ≡ line_of line.now }
 {
-    if fieldtext::field_end(line) != 1 {
-        return Line::Bad;
-    }
-    by_letter(line, line[0])
-}
-
-// The access that an `A` line asks for.
-pub fn access_in(f: Fields) -> rules::Access
-    ensures { result ≡ access_in f }
-{
-    rules::Access {
-        op: f.op as u64,
-        state: f.state as u64,
-        width: f.width as u64,
-        addr: f.addr,
-        datum: f.datum,
+    match &line[..fieldtext::field_end(line)] {
+        [letter] => by_letter(*letter, line),
+        _ => None,
     }
 }

@@ -5,20 +5,13 @@
 ghost use Rattle.std.specs.Prelude.{◌≡◌, ◌<◌};
 ghost use Rattle.rules.specs.Memory.{good_length, byte_at, word_at, even_of, store_word, store_byte};
 ghost use Rattle.rules.specs.Tools.{map_page};
-ghost use Rattle.rules.specs.Maps.{low9};
-
-fn wide(x: u8) -> u16
-    ensures { (result ≡ x) × (result < 256) }
-{
-    x as u16
-}
 
 // "its length L is even, at most 253,952 (760000o)"
 #[tactic(auto, unfolding(rules::specs::Memory::good_length))]
 pub fn good_length(len: usize) -> bool
     ensures { result ≡ good_length len }
 {
-    if len % 2 == 0 { len <= 0o760000 } else { false }
+    len % 2 == 0 && len <= 0o760000
 }
 
 #[tactic(auto, unfolding(rules::specs::Memory::even_of))]
@@ -32,20 +25,21 @@ pub fn even_of(at: usize) -> usize
 pub fn byte_at(m: &[u8], at: usize) -> u16
     ensures { (result ≡ byte_at m.now at) × (result < 256) }
 {
-    if at < m.len() { wide(m[at]) } else { 0 }
+    m.get(at).map_or(0, |&byte| u16::from(byte))
 }
 
-#[tactic(auto, unfolding(rules::specs::Memory::word_at))]
+#[tactic(auto, unfolding(rules::specs::Memory::word_at, rules::specs::Memory::byte_at))]
 pub fn word_at(m: &[u8], at: usize) -> u16
     ensures { result ≡ word_at m.now at }
 {
-    if at < m.len() {
-        byte_at(m, at) + 256 * byte_at(m, at + 1)
-    } else {
-        0
+    match m.get(at..) {
+        Some([low, high, ..]) => u16::from_le_bytes([*low, *high]),
+        Some([low]) => u16::from(*low),
+        _ => 0,
     }
 }
 
+// (`get_mut` promises no element, so a store through it would not be proved.)
 #[tactic(auto, unfolding(rules::specs::Memory::store_byte))]
 pub fn store_byte(m: &mut [u8], at: usize, v: u16)
     ensures { m.new ≡ store_byte m.old at v }
@@ -55,6 +49,7 @@ pub fn store_byte(m: &mut [u8], at: usize, v: u16)
     }
 }
 
+#[tactic(auto, unfolding(rules::specs::Memory::store_word, rules::specs::Memory::store_byte))]
 pub fn store_word(m: &mut [u8], at: usize, v: u16)
     ensures { m.new ≡ store_word m.old at v }
 {
@@ -69,7 +64,10 @@ pub fn store_word(m: &mut [u8], at: usize, v: u16)
 pub fn map_page(m: &[u8], register: u16) -> &[u8]
     ensures { result.now ≡ map_page m.now register }
 {
-    let at = 512 * ((register as usize) % 512);
+    let at = 512 * (usize::from(register) % 512);
     let end = at + 512;
-    if end <= m.len() { &m[at..end] } else { &m[..0] }
+    match m.get(at..end) {
+        Some(page) => page,
+        None => &[],
+    }
 }

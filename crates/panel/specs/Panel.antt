@@ -1,5 +1,7 @@
 -- What a front panel or a debugger reads of the words of a unit, and where a map page lies.
-use Rattle.std.specs.Prelude.{ℕ, ◌+◌, ◌-◌, ◌*◌, ◌&&◌, List, [], eqb, ltb, leb, take, drop}
+use Rattle.std.specs.Prelude.{ℕ, ◌+◌, ◌-◌, ◌*◌, ◌&&◌, List, [], eqb, ltb, leb, take, drop, ◌≡◌, MatchOption, Result, Ok, Err}
+use Rattle.rules.specs.declared.Cell.{Cell}
+use Rattle.rules.specs.declared.Cells.{Cells}
 use Rattle.rules.specs.declared.Unit.{Unit}
 use Rattle.rules.specs.declared.Register.{Register}
 use Rattle.rules.specs.Choice.{pick}
@@ -8,10 +10,15 @@ use Rattle.rules.specs.Unit.{count_of, cell_at}
 use Rattle.rules.specs.Registers.{register_of}
 use Rattle.rules.specs.Maps.{low9}
 use Rattle.rules.specs.Order.{source_in, word_from}
-use Rattle.coding.specs.Coding.{wait_number, is_unit, decoded}
-use Rattle.replies.specs.Replies.{told, no_unit, misshapen}
+use Rattle.coding.specs.Coding.{wait_number, is_unit, decoded, unit_in}
+use Rattle.replies.specs.declared.Refusal.{Refusal}
+use Rattle.replies.specs.Replies.{told, no_unit, misshapen, read_as}
 
 -- Readings -------------------------------------------------------------------------------------------------------------------------
+
+-- What is answered where a unit can be read so: what one reading of it answers, or that the words hold none.
+abbrev pub IsReading : (Unit → Result ℕ Refusal → Type 0) → List ℕ → ℕ → Type 0
+IsReading of w n = MatchOption (unit_in w) (n ≡ no_unit) (λ u. (r : Result ℕ Refusal) × of u r × (n ≡ read_as r))
 
 -- a register as an access would read it
 unfoldable pub register_told : Unit → Register → ℕ
@@ -25,6 +32,10 @@ register_read w n =
 -- how many cells the unit has
 unfoldable pub count_read : List ℕ → ℕ
 count_read w = pick (is_unit w) (told 0 (count_of (decoded w).cells.size)) no_unit
+
+-- the cell at this place, where there is one
+abbrev pub cell_in : Cells → ℕ → Result Cell Refusal
+cell_in k i = pick (ltb i (count_of k.size)) (Ok (cell_at k i)) (Err Refusal.Misshapen)
 
 -- a number x that is read of the cell at this place, its tag or its word, where the unit has such a cell
 unfoldable pub cell_read : List ℕ → ℕ → ℕ → ℕ

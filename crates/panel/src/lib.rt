@@ -1,128 +1,96 @@
 // What a front panel or a debugger reads of the words of a unit, and where a map page lies. Nothing here changes anything.
 #![tactic(auto)]
 
-ghost use Rattle.std.specs.Prelude.{◌≡◌, ◌≤◌};
-ghost use Rattle.rules.specs.Unit.{count_of, cell_at};
-ghost use Rattle.coding.specs.Coding.{decoded};
-ghost use Rattle.panel.specs.Panel.{register_told, register_read, count_read, cell_read, tag_read, word_read, counter_read, wait_read, page_place};
+ghost use Rattle.std.specs.Prelude.{◌≡◌, Some};
+ghost use Rattle.coding.specs.Coding.{unit_in};
+ghost use Rattle.panel.specs.Panel.{register_read, count_read, tag_read, word_read, counter_read, wait_read, page_place};
+ghost use Rattle.panel.specs.Panel.{cell_in, IsReading};
 
-use rules::{Cell, Register, Unit};
+use coding::WORDS;
+use replies::Refusal;
+use rules::{Cell, Cells, Unit};
 
-// The number that says that there is no page.
-const NO_PAGE: usize = 0xffffffffffffffff;
+// The number that says that there is no page: C, which reads it, has no other way to be told so.
+const NO_PAGE: usize = usize::MAX;
 
-// A register as an access would read it.
-#[tactic(auto, unfolding(crate::specs::Panel::register_told))]
-fn register_told(u: Unit, g: Register) -> u64
-    ensures { result ≡ register_told u g }
+// What is read of the unit that the words hold, if they hold one.
+#[tactic(auto, unfolding(coding::specs::Coding::unit_in, rules::specs::Choice::pick))]
+fn read<F: FnOnce(Unit) -> Result<u16, Refusal>>(w: &[u16; WORDS], reading: F) -> u64
+    requires { (u : Unit) → unit_in w.now ≡ Some u → F.pre reading u }
+    ensures { IsReading (F.post reading) w.now result }
 {
-    let c = u.core;
-    let maps = u.maps;
-    let k = u.cells;
-    replies::told(0, transfer::word_in(c, maps, k, g))
+    replies::read_as(coding::unit_in(w).ok_or(Refusal::NoUnit).and_then(reading))
 }
 
 // A register by its number in the table of addresses: KTMR 1, KTCS 2, and on to KTEM 10.
-#[tactic(auto, unfolding(crate::specs::Panel::register_read, rules::specs::Choice::pick))]
-pub fn register_read(w: [u16; coding::WORDS], number: usize) -> u64
-    ensures { result ≡ register_read w number }
+#[tactic(auto, unfolding(crate::specs::Panel::register_read, crate::specs::Panel::register_told, coding::specs::Coding::unit_in, rules::specs::Choice::pick))]
+pub fn register_read(w: &[u16; WORDS], number: usize) -> u64
+    ensures { result ≡ register_read w.now number }
 {
-    if coding::is_unit(w) {
-        if (0 < number) & (number < 11) {
-            return register_told(coding::decoded(w), registers::register_of(number - 1));
+    read(w, |u| match number {
+        1..=10 => {
+            let g = registers::register_of(number - 1);
+            Ok(transfer::word_in(u.core, u.maps, &u.cells, g))
         }
-        return replies::misshapen();
+        _ => Err(Refusal::Misshapen),
+    })
+}
+
+// How many cells the unit has.
+#[tactic(auto, unfolding(crate::specs::Panel::count_read, coding::specs::Coding::unit_in, rules::specs::Choice::pick))]
+pub fn count_read(w: &[u16; WORDS]) -> u64
+    ensures { result ≡ count_read w.now }
+{
+    read(w, |u| Ok(sizes::count_of(u.cells.size) as u16))
+}
+
+// The cell at this place, if the unit has such a cell.
+#[tactic(auto, unfolding(rules::specs::Unit::there, rules::specs::Choice::pick))]
+fn cell_in(k: &Cells, index: usize) -> Result<Cell, Refusal>
+    ensures { result ≡ cell_in k.now index }
+{
+    if index < sizes::count_of(k.size) {
+        Ok(cells::cell_at(k, index))
+    } else {
+        Err(Refusal::Misshapen)
     }
-    replies::no_unit()
 }
 
-// How many cells these words say.
-fn cells_in(w: [u16; coding::WORDS]) -> usize
-    ensures { (result ≡ count_of (decoded w).cells.size) × (result ≤ 24) }
+#[tactic(auto, unfolding(crate::specs::Panel::cell_read, coding::specs::Coding::unit_in, rules::specs::Choice::pick))]
+pub fn tag_read(w: &[u16; WORDS], index: usize) -> u64
+    ensures { result ≡ tag_read w.now index }
 {
-    let u = coding::decoded(w);
-    let k = u.cells;
-    let size = k.size;
-    sizes::count_of(size)
+    read(w, |u| Ok(cell_in(&u.cells, index)?.tag))
 }
 
-#[tactic(auto, unfolding(crate::specs::Panel::count_read, rules::specs::Choice::pick))]
-pub fn count_read(w: [u16; coding::WORDS]) -> u64
-    ensures { result ≡ count_read w }
+#[tactic(auto, unfolding(crate::specs::Panel::cell_read, coding::specs::Coding::unit_in, rules::specs::Choice::pick))]
+pub fn word_read(w: &[u16; WORDS], index: usize) -> u64
+    ensures { result ≡ word_read w.now index }
 {
-    if coding::is_unit(w) {
-        return replies::told(0, cells_in(w) as u16);
-    }
-    replies::no_unit()
+    read(w, |u| Ok(cell_in(&u.cells, index)?.word))
 }
 
-// A number that is read of the cell at this place, if the unit has such a cell.
-#[tactic(auto, unfolding(crate::specs::Panel::cell_read, rules::specs::Choice::pick))]
-fn cell_read(w: [u16; coding::WORDS], index: usize, number: u16) -> u64
-    ensures { result ≡ cell_read w index number }
+#[tactic(auto, unfolding(crate::specs::Panel::counter_read, coding::specs::Coding::unit_in, rules::specs::Choice::pick))]
+pub fn counter_read(w: &[u16; WORDS]) -> u64
+    ensures { result ≡ counter_read w.now }
 {
-    if coding::is_unit(w) {
-        if index < cells_in(w) {
-            return replies::told(0, number);
-        }
-        return replies::misshapen();
-    }
-    replies::no_unit()
-}
-
-#[tactic(auto, unfolding(rules::specs::Unit::there))]
-fn cell_in(w: [u16; coding::WORDS], index: usize) -> Cell
-    ensures { result ≡ cell_at (decoded w).cells index }
-{
-    let u = coding::decoded(w);
-    let k = u.cells;
-    let list = k.list;
-    let size = k.size;
-    cells::cell_at(list, size, index)
-}
-
-pub fn tag_read(w: [u16; coding::WORDS], index: usize) -> u64
-    ensures { result ≡ tag_read w index }
-{
-    cell_read(w, index, cell_in(w, index).tag)
-}
-
-pub fn word_read(w: [u16; coding::WORDS], index: usize) -> u64
-    ensures { result ≡ word_read w index }
-{
-    cell_read(w, index, cell_in(w, index).word)
-}
-
-#[tactic(auto, unfolding(crate::specs::Panel::counter_read, rules::specs::Choice::pick))]
-pub fn counter_read(w: [u16; coding::WORDS]) -> u64
-    ensures { result ≡ counter_read w }
-{
-    if coding::is_unit(w) {
-        let u = coding::decoded(w);
-        return replies::told(0, u.cells.counter);
-    }
-    replies::no_unit()
+    read(w, |u| Ok(u.cells.counter))
 }
 
 // 0 nothing, 1 and 2 the SERVICE DATOs, 3 the second START read.
-#[tactic(auto, unfolding(crate::specs::Panel::wait_read, rules::specs::Choice::pick))]
-pub fn wait_read(w: [u16; coding::WORDS]) -> u64
-    ensures { result ≡ wait_read w }
+#[tactic(auto, unfolding(crate::specs::Panel::wait_read, coding::specs::Coding::unit_in, rules::specs::Choice::pick))]
+pub fn wait_read(w: &[u16; WORDS]) -> u64
+    ensures { result ≡ wait_read w.now }
 {
-    if coding::is_unit(w) {
-        let u = coding::decoded(w);
-        let c = u.core;
-        let wait = c.wait;
-        return replies::told(0, coding::wait_number(wait));
-    }
-    replies::no_unit()
+    read(w, |u| Ok(coding::wait_number(u.core.wait)))
 }
 
 // Where the page that a map register's word names begins, in a memory of this length: "as a part of the caller's memory, or an empty part".
+// (The part itself is `memory::map_page`; to C a place goes, by the same line of arithmetic.)
 #[tactic(auto, unfolding(crate::specs::Panel::page_place, rules::specs::Choice::pick, rules::specs::Maps::low9))]
 pub fn page_place(length: usize, word: u16) -> usize
     ensures { result ≡ page_place length word }
 {
-    let at = 512 * ((word as usize) % 512);
+    let at = 512 * usize::from(word % 512);
     if at + 512 <= length { at } else { NO_PAGE }
 }

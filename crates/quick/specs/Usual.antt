@@ -1,5 +1,5 @@
 -- The usual access: nothing waited for, normal paging, no error flag, and an instruction under way that marks neither SS nor DS by itself.
-use Rattle.std.specs.Prelude.{ℕ, ◌≡◌, Bool, true, false, not, ◌&&◌, ◌||◌, eqb, set}
+use Rattle.std.specs.Prelude.{ℕ, ◌≡◌, Bool, true, false, not, ◌&&◌, ◌||◌, eqb, set, Option, IfSome}
 use Rattle.rules.specs.declared.Kind.{Kind}
 use Rattle.rules.specs.declared.Wait.{Wait}
 use Rattle.rules.specs.declared.Fetch.{Fetch}
@@ -7,7 +7,9 @@ use Rattle.rules.specs.declared.Core.{Core}
 use Rattle.rules.specs.declared.Maps.{Maps}
 use Rattle.rules.specs.declared.Cells.{Cells}
 use Rattle.rules.specs.declared.Access.{Access}
+use Rattle.rules.specs.declared.Job.{Job}
 use Rattle.rules.specs.declared.Effect.{Effect}
+use Rattle.rules.specs.declared.Outcome.{Outcome}
 use Rattle.rules.specs.Choice.{pick}
 use Rattle.rules.specs.Memory.{Memory}
 use Rattle.rules.specs.Registers.{ktic}
@@ -16,7 +18,6 @@ use Rattle.rules.specs.Fetched.{kind_of, is_dato, one_more}
 use Rattle.rules.specs.Steps.{well_shaped, odd_word}
 use Rattle.rules.specs.Program.{Prog, run}
 use Rattle.rules.specs.Calls.{maps_after, cells_after}
-use Rattle.quick.specs.declared.Attempt.{Attempt}
 
 unfoldable pub is_idle : Wait → Bool
 is_idle Wait.Nothing = true
@@ -59,12 +60,20 @@ other_noted c q =
       fetch = other_fetch c.fetch q;
     }
 
+-- the job of an access, with a core, as many cells as these are, and any map registers
+abbrev pub job_of : Access → Core → Cells → Maps → Job
+job_of q c k r = record { q = q; core = c; maps = r; size = k.size }
+
 -- an effect that leaves the map registers and the cells
 pub record Quiet (e : Effect) : Type 0 where
   pub maps : (r : Maps) → maps_after e r ≡ r
   pub cells : (k : Cells) → cells_after e k ≡ k
 
--- What an attempt owes where it says that it is done: that the steps run so, with any map registers, and that only the core and memory change.
-pub record Sound (a : Attempt) (m : Memory) (p : Maps → Prog) (k : Cells) : Type 0 where
-  pub runs : a.done ≡ true → (r : Maps) → run m r (p r) k ≡ record { outcome = a.outcome; cells = k }
-  pub quiet : a.done ≡ true → Quiet a.outcome.effect
+-- What an outcome of the attempt owes: that the steps run so, with any map registers, and that only the core and memory change.
+pub record IsOutcome (o : Outcome) (m : Memory) (p : Maps → Prog) (k : Cells) : Type 0 where
+  pub runs : (r : Maps) → run m r (p r) k ≡ record { outcome = o; cells = k }
+  pub quiet : Quiet o.effect
+
+-- An attempt owes nothing where it gives no outcome.
+abbrev pub Sound : Option Outcome → Memory → (Maps → Prog) → Cells → Type 0
+Sound a m p k = IfSome a (λ o. IsOutcome o m p k)

@@ -2,12 +2,12 @@
 // registers (01, "Registers").
 #![tactic(auto)]
 
-ghost use Rattle.std.specs.Prelude.{◌≡◌, get_or, set, take};
+ghost use Rattle.std.specs.Prelude.{◌≡◌, get_or, set};
 ghost use Rattle.rules.specs.Registers.{found_from, register_of, place_in, place_of, part_of, merged, operating_word};
 
-use rules::{Associative, Core, Found, Maps, Operating, Part, Place, Register, Size, Target};
+use rules::{Associative, Core, Maps, Operating, Operation, Part, Place, Register, Size, Target};
 
-// The registers that only remember, counted from KTIC.
+// The registers that only remember, counted from KTIC: numbers, since they are places in an array and in the table of registers.
 pub const KTIC: usize = 0;
 
 pub const KTSP: usize = 1;
@@ -24,28 +24,10 @@ pub const KTDT: usize = 5;
 const BEFORE_PADS: usize = 11;
 
 // The one search, for vectors and for registers.
-pub fn found(list: &[usize], x: usize) -> Found
+pub fn found(list: &[usize], x: usize) -> Option<usize>
     ensures { result ≡ found_from 0 list.now x }
 {
-    let mut i = 0;
-    while i < list.len() {
-        if x == list[i] {
-            return Found::At(i);
-        }
-        i += 1;
-    }
-    Found::Missing
-}
-
-// The same among the first so many of a list, or in all of it where it has fewer.
-fn found_before(list: &[usize], end: usize, x: usize) -> Found
-    ensures { result ≡ found_from 0 (take end list.now) x }
-{
-    if end <= list.len() {
-        found(&list[..end], x)
-    } else {
-        found(list, x)
-    }
+    list.iter().position(|&held| x == held)
 }
 
 // The register with this number, counted from KTMR in the order of their addresses.
@@ -53,22 +35,14 @@ fn found_before(list: &[usize], end: usize, x: usize) -> Found
 pub fn register_of(n: usize) -> Register
     ensures { result ≡ register_of n }
 {
-    if n == 0 {
-        return Register::Associative(Associative::Ktmr);
+    match n {
+        0 => Register::Associative(Associative::Ktmr),
+        1 => Register::Operating(Operating::Ktcs),
+        2..8 => Register::Operating(Operating::Kept(n - 2)),
+        8 => Register::Operating(Operating::Ktum),
+        9 => Register::Operating(Operating::Ktem),
+        _ => Register::Associative(Associative::Pad(n - 10)),
     }
-    if n == 1 {
-        return Register::Operating(Operating::Ktcs);
-    }
-    if n < 8 {
-        return Register::Operating(Operating::Kept(n - 2));
-    }
-    if n == 8 {
-        return Register::Operating(Operating::Ktum);
-    }
-    if n == 9 {
-        return Register::Operating(Operating::Ktem);
-    }
-    Register::Associative(Associative::Pad(n - 10))
 }
 
 // What stands at this place of the table: the window first, and the registers after it.
@@ -76,10 +50,9 @@ pub fn register_of(n: usize) -> Register
 fn place_in(n: usize) -> Place
     ensures { result ≡ place_in n }
 {
-    if n == 0 {
-        Place::Window
-    } else {
-        Place::There(Target::In(register_of(n - 1)))
+    match n {
+        0 => Place::Window,
+        _ => Place::There(Target::In(register_of(n - 1))),
     }
 }
 
@@ -92,10 +65,7 @@ pub fn place_of(size: Size, len: usize, at: usize) -> Place
         return Place::There(Target::Memory);
     }
     let end = BEFORE_PADS + sizes::count_of(size);
-    match found_before(&rules::REGISTERS, end, memory::even_of(at)) {
-        Found::At(n) => place_in(n),
-        Found::Missing => Place::Nowhere,
-    }
+    found(&rules::REGISTERS[..end], memory::even_of(at)).map_or(Place::Nowhere, place_in)
 }
 
 // "DATOB writes the low 8 bits of data", into the byte that its address names; every other store covers the word.
@@ -103,14 +73,16 @@ pub fn place_of(size: Size, len: usize, at: usize) -> Place
 pub fn part_of(op: u64, at: usize) -> Part
     ensures { result ≡ part_of op at }
 {
-    if op == 3 {
-        if at % 2 == 0 { Part::Low } else { Part::High }
-    } else {
+    if op != Operation::Datob as u64 {
         Part::Whole
+    } else if at % 2 == 0 {
+        Part::Low
+    } else {
+        Part::High
     }
 }
 
-// "Other registers take words and bytes."
+// "Other registers take words and bytes." Part and word come apart here as everywhere: the definitions and `Effect::StorePad` have them so.
 #[tactic(auto, unfolding(rules::specs::Registers::merged))]
 pub fn merged(p: Part, old: u16, v: u16) -> u16
     ensures { result ≡ merged p old v }
@@ -123,23 +95,21 @@ pub fn merged(p: Part, old: u16, v: u16) -> u16
 }
 
 // A register that only remembers, by its place among them; 0 past the last.
-pub fn kept_word(kept: [u16; rules::KEPT], i: usize) -> u16
-    ensures { result ≡ get_or kept i 0 }
+pub fn kept_word(kept: &[u16; rules::KEPT], i: usize) -> u16
+    ensures { result ≡ get_or kept.now i 0 }
 {
-    if i < rules::KEPT { kept[i] } else { 0 }
+    kept.get(i).copied().unwrap_or(0)
 }
 
-// One of them changed; none past the last.
-pub fn kept_stored(kept: [u16; rules::KEPT], i: usize, v: u16) -> [u16; rules::KEPT]
-    ensures { result ≡ set kept i v }
+// A list with one place changed; past the last, the list as it is. The registers that only remember are stored into by this, and the cells.
+// (`get_mut` promises no element, so a store through it would not be proved.)
+pub fn stored<T: Copy, const N: usize>(mut list: [T; N], i: usize, v: T) -> [T; N]
+    ensures { result ≡ set list i v }
 {
-    if i < rules::KEPT {
-        let mut k = kept;
-        k[i] = v;
-        k
-    } else {
-        kept
+    if i < N {
+        list[i] = v;
     }
+    list
 }
 
 // What a read of a register gives that the core or the map registers answer for.
@@ -149,10 +119,7 @@ pub fn operating_word(c: Core, r: Maps, g: Operating) -> u16
 {
     match g {
         Operating::Ktcs => status::packed(c.ktcs),
-        Operating::Kept(i) => {
-            let kept = c.kept;
-            kept_word(kept, i)
-        }
+        Operating::Kept(i) => kept_word(&c.kept, i),
         Operating::Ktum => r.ktum,
         Operating::Ktem => r.ktem,
     }

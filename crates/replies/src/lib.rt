@@ -3,18 +3,29 @@
 
 ghost use Rattle.std.specs.Prelude.{◌≡◌, ◌<◌};
 ghost use Rattle.rules.specs.Answers.{shown, making_shown};
-ghost use Rattle.replies.specs.Replies.{physical_bits, reply_word, told, no_unit, misshapen};
+ghost use Rattle.replies.specs.Replies.{physical_bits, reply_word, told, refused, read_as};
 
-use rules::{Answer, Making, Physical, Returned};
+use rules::{Answer, Returned, Size};
+
+// Why the library refuses a call, a reading or a making, by the number that it answers.
+#[derive(Clone, Copy)]
+pub enum Refusal {
+    // A number that names no register and no cell.
+    Misshapen = 1,
+    // "Every other number gives 30 and no unit."
+    OtherCount = 30,
+    // Words that don't hold a unit.
+    NoUnit = 70,
+}
 
 // Bits 16 to 34. The bound lets the sum of the parts fit.
 #[tactic(auto, unfolding(crate::specs::Replies::physical_bits))]
-fn physical_bits(p: Physical) -> u64
-    ensures { (result ≡ physical_bits p) × (result < 0x800000000) }
+fn physical_bits(physical: Option<usize>) -> u64
+    ensures { (result ≡ physical_bits physical) × (result < 0x800000000) }
 {
-    match p {
-        Physical::At(at) => (at % 0x40000) as u64 * 0x10000 + 0x400000000,
-        Physical::Nowhere => 0,
+    match physical {
+        Some(at) => (at % 0x40000) as u64 * 0x10000 + 0x400000000,
+        None => 0,
     }
 }
 
@@ -22,8 +33,7 @@ fn physical_bits(p: Physical) -> u64
 pub fn reply_word(s: Returned) -> u64
     ensures { result ≡ reply_word s }
 {
-    let p = s.physical;
-    s.datum as u64 + physical_bits(p) + (s.number % 256) as u64 * 0x10000000000
+    u64::from(s.datum) + physical_bits(s.physical) + u64::from(s.number % 256) * 0x10000000000
 }
 
 // A reply with no physical address.
@@ -34,32 +44,35 @@ pub fn told(number: u16, datum: u16) -> u64
     reply_word(Returned {
         number,
         datum,
-        physical: Physical::Nowhere,
+        physical: None,
     })
 }
 
-#[tactic(auto, unfolding(crate::specs::Replies::no_unit))]
-pub fn no_unit() -> u64
-    ensures { result ≡ no_unit }
+#[tactic(auto, unfolding(crate::specs::Replies::no_unit, crate::specs::Replies::misshapen, crate::specs::Replies::told, rules::specs::Answers::making_shown))]
+pub fn refused(why: Refusal) -> u64
+    ensures { result ≡ refused why }
 {
-    told(70, 0)
+    told(why as u16, 0)
 }
 
-#[tactic(auto, unfolding(crate::specs::Replies::misshapen))]
-pub fn misshapen() -> u64
-    ensures { result ≡ misshapen }
+// What a reading answers: the number that was read, or why there is none.
+pub fn read_as(reading: Result<u16, Refusal>) -> u64
+    ensures { result ≡ read_as reading }
 {
-    told(1, 0)
+    match reading {
+        Ok(datum) => told(0, datum),
+        Err(why) => refused(why),
+    }
 }
 
 // What the making of a unit gives.
 #[tactic(auto, unfolding(crate::specs::Replies::told, rules::specs::Answers::making_shown))]
-pub fn making_replied(how: Making) -> u64
+pub fn making_replied(how: Option<Size>) -> u64
     ensures { result ≡ reply_word (making_shown how) }
 {
     match how {
-        Making::With(_) => told(0, 0),
-        Making::OtherCount => told(30, 0),
+        Some(_) => told(0, 0),
+        None => refused(Refusal::OtherCount),
     }
 }
 

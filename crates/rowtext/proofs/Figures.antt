@@ -1,70 +1,58 @@
--- The laws of a number's digits: one digit taken off the end, and how many there are.
+-- The laws of a number's digits: the octal ones by the last of them, and the decimal ones as the library writes them.
 use Prim.Native.Nat.{ℕ, zero, suc, ◌+◌, ◌-◌, ◌/◌, ◌%◌, ◌^◌, ◌≤◌, ◌<◌}
-use mathlib.Core.Path.{◌≡◌, refl, ap, sym, ◌∙◌}
-use mathlib.Core.Bool.{Bool, true, false}
-use mathlib.Core.List.{List, [], ◌∷◌, ◌++◌, append_assoc}
-use native.Mathlib.Nat.{pow-suc}
+use mathlib.Core.Path.{◌≡◌, sym}
+use mathlib.Core.List.{List, [], ◌∷◌, ◌++◌, append_assoc, append-nil}
 use native.Mathlib.Omega.{arith}
-use lib.ListN.{length, length-append}
-use lib.Dec.{ltb}
-use borrow.Author.Tests.{lt-ltb, le-ltb, ltb-true, ltb-false}
+use lib.ListN.{length}
+use borrow.Author.Tests.{lt-ltb, le-ltb}
 use Rattle.rules.specs.Choice.{pick}
+use Rattle.std.specs.Fmt.{decimal as library_decimal}
+use Rattle.std.proofs.Common.{length-append}
+use Rattle.std.proofs.lemmas.Fmt.{AppendsLastDigit, decimal_from_appends, length-decimal-le_succ, length-decimal-le, decimal_step, decimal_digit}
 use Rattle.rowtext.specs.Digits.{octals, decimals, decimal}
 
--- a digit goes from the end of the number to the front of what is written
-pub shift : (b x : List ℕ) (d : ℕ) {a w y : List ℕ} → a ≡ b ++ d ∷ [] → y ≡ d ∷ x → a ++ x ≡ w → b ++ y ≡ w
-shift b x d e f g =
-    ap (λ (l : List ℕ). b ++ l) f ∙ sym (ap (λ (l : List ℕ). l ++ x) e ∙ append_assoc b (d ∷ []) x) ∙ g
-
-pub octals-more : (k n : ℕ) → 0 < k → octals k n ≡ octals (k - 1) (n / 8) ++ (48 + n % 8) ∷ []
+-- one more octal digit after a text, and none
+pub octals_more : (text : List ℕ) (k n : ℕ) → 0 < k → text ++ octals k n ≡ (text ++ octals (k - 1) (n / 8)) ++ (48 + n % 8) ∷ []
 unfolding octals
-octals-more zero n h = let z : ⊥ = omega arith in absurd z
-octals-more (suc k) n h =
+octals_more text zero n h = let z : ⊥ = omega arith in absurd z
+octals_more text (suc k) n h =
     let e : suc k - 1 ≡ k = omega arith in
-    rw e
+    rw e (sym (append_assoc text (octals k (n / 8)) ((48 + n % 8) ∷ [])))
 
-pub octals-none : (k n : ℕ) → k ≤ 0 → octals k n ≡ []
+pub octals_none : (text : List ℕ) (k n : ℕ) → k ≤ 0 → text ++ octals k n ≡ text
 unfolding octals
-octals-none zero n h = refl
-octals-none (suc k) n h = let z : ⊥ = omega arith in absurd z
+octals_none text zero n h = append-nil text
+octals_none text (suc k) n h = let z : ⊥ = omega arith in absurd z
 
--- the bound of a decimal number does not matter
-same-decimals : (f g n : ℕ) → n < f → n < g → decimals f n ≡ decimals g n
+last_digit_at_the_end : AppendsLastDigit decimals
 unfolding decimals pick
-same-decimals zero g n h k = let z : ⊥ = omega arith in absurd z
-same-decimals (suc f) zero n h k = let z : ⊥ = omega arith in absurd z
-same-decimals (suc f) (suc g) n h k = by (ltb n 10) refl (same-decimals f g (n / 10))
-  where
-    by : (t : Bool) → ltb n 10 ≡ t → (n / 10 < f → n / 10 < g → decimals f (n / 10) ≡ decimals g (n / 10))
-        → pick t ((48 + n) ∷ []) (decimals f (n / 10) ++ (48 + n % 10) ∷ []) ≡ pick t ((48 + n) ∷ []) (decimals g (n / 10) ++ (48 + n % 10) ∷ [])
-    by true e less = refl
-    by false e less =
-        let m = ltb-false n 10 e in
-        ap (λ (l : List ℕ). l ++ (48 + n % 10) ∷ []) (less (omega arith) (omega arith))
+last_digit_at_the_end = record {
+  one = λ k n h. simp (lt-ltb n 10 h);
+  more = λ k n h. simp (le-ltb n 10 h);
+}
 
-pub decimal-last : (n : ℕ) → n < 10 → decimal n ≡ (48 + n) ∷ []
-unfolding decimal decimals pick
-decimal-last n h = simp (lt-ltb n 10 h)
+same_decimal : (n : ℕ) → n < 2 ^ 64 → library_decimal n ≡ decimal n
+unfolding decimal
+same_decimal n h = sym (decimal_from_appends decimals last_digit_at_the_end (suc n) n h (omega (arith, length-decimal-le_succ n h)))
 
-pub decimal-more : (n : ℕ) → 9 < n → decimal n ≡ decimal (n / 10) ++ (48 + n % 10) ∷ []
-unfolding decimal decimals pick
-decimal-more n h =
-    simp (le-ltb n 10 h) (ap (λ (l : List ℕ). l ++ (48 + n % 10) ∷ []) (same-decimals n (suc (n / 10)) (n / 10) (omega arith) (omega arith)))
+-- one more decimal digit after a text, a lone one, and how many there are
+pub decimal_more : (text : List ℕ) (n : ℕ) → 10 ≤ n → n < 2 ^ 64 → text ++ decimal n ≡ (text ++ decimal (n / 10)) ++ (48 + n % 10) ∷ []
+decimal_more text n h b =
+    rw (sym (same_decimal n b)) (rw (sym (same_decimal (n / 10) (omega arith)))
+    (rw (decimal_step n h b) (sym (append_assoc text (library_decimal (n / 10)) ((48 + n % 10) ∷ [])))))
 
--- a number below 10 ^ (k + 1) has at most k + 1 digits, and every number has one
-pub decimal-length : (k n : ℕ) → n < 10 ^ suc k → length (decimal n) ≤ suc k
-decimal-length zero n h = omega (arith, ap length (decimal-last n h))
-decimal-length (suc k) n h = by (ltb n 10) refl (decimal-length k (n / 10) (omega (arith, pow-suc 10 (suc k))))
-  where
-    by : (t : Bool) → ltb n 10 ≡ t → length (decimal (n / 10)) ≤ suc k → length (decimal n) ≤ suc (suc k)
-    by true e i = omega (arith, ap length (decimal-last n (ltb-true n 10 e)))
-    by false e i =
-        let l : length (decimal n) ≡ length (decimal (n / 10)) + 1 = ap length (decimal-more n (ltb-false n 10 e)) ∙ length-append (decimal (n / 10)) ((48 + n % 10) ∷ []) in
-        omega arith
+pub decimal_length_more : (n : ℕ) → 10 ≤ n → n < 2 ^ 64 → length (decimal n) ≡ length (decimal (n / 10)) + 1
+decimal_length_more n h b = rw (decimal_more [] n h b) (length-append (decimal (n / 10)) ((48 + n % 10) ∷ []))
 
-pub decimal-some : (n : ℕ) → 0 < length (decimal n)
-decimal-some n = by (ltb n 10) refl
-  where
-    by : (t : Bool) → ltb n 10 ≡ t → 0 < length (decimal n)
-    by true e = omega (arith, ap length (decimal-last n (ltb-true n 10 e)))
-    by false e = omega (arith, ap length (decimal-more n (ltb-false n 10 e)) ∙ length-append (decimal (n / 10)) ((48 + n % 10) ∷ []))
+pub decimal_one : (n : ℕ) → n < 10 → decimal n ≡ (48 + n) ∷ []
+decimal_one n h = rw (sym (same_decimal n (omega arith))) (decimal_digit n h)
+
+-- the room that the digits before the last leave, and that 20 bytes are enough for all
+pub decimal_leaves : (text : List ℕ) (n : ℕ) → 10 ≤ n → n < 2 ^ 64 → length text + length (decimal n) ≤ 64 → length (text ++ decimal (n / 10)) < 64
+decimal_leaves text n h b room = omega (arith, length-append text (decimal (n / 10)), decimal_length_more n h b)
+
+pub decimal_length : (n : ℕ) → n < 2 ^ 64 → length (decimal n) ≤ 20
+decimal_length n h = rw (sym (same_decimal n h)) (length-decimal-le 20 n (omega arith) (omega arith) h)
+
+pub decimal_takes : (text : List ℕ) (n : ℕ) → n < 2 ^ 64 → length (text ++ decimal n) ≤ length text + 20
+decimal_takes text n h = omega (arith, length-append text (decimal n), decimal_length n h)

@@ -1,5 +1,4 @@
 -- Laws that several proofs cite.
-pub mod Front
 pub mod Figures
 pub mod Worked
 pub mod Back

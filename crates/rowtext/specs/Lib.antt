@@ -1,4 +1,3 @@
 -- The definitions that the contracts cite.
 pub mod Digits
 pub mod Row
-pub mod Written

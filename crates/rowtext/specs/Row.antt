@@ -1,8 +1,6 @@
 -- The lines of the output: the header, a call's row and a bad line.
-use Rattle.std.specs.Prelude.{ℕ, List, [], ◌∷◌, ◌++◌}
+use Rattle.std.specs.Prelude.{ℕ, List, [], ◌∷◌, ◌++◌, Option, Some, None}
 use Rattle.rowtext.specs.Digits.{octal6, decimal}
-use Rattle.rowtext.specs.declared.Printed.{Printed}
-use Rattle.rowtext.specs.declared.Printed.TheVariants.{At, Dash}
 
 abbrev pub tab : List ℕ
 tab = 9 ∷ []
@@ -11,12 +9,12 @@ abbrev pub newline : List ℕ
 newline = 10 ∷ []
 
 -- "physical (six digits each, or `-`)"
-unfoldable pub address_text : Printed → List ℕ
-address_text (At p) = octal6 p
-address_text Dash = 45 ∷ []
+unfoldable pub address_text : Option ℕ → List ℕ
+address_text (Some p) = octal6 p
+address_text None = 45 ∷ []
 
 -- "Each call prints its decimal number, answer, data, physical (six digits each, or `-`) and KTCS."
-unfoldable pub row_of : ℕ → ℕ → ℕ → Printed → ℕ → List ℕ
+unfoldable pub row_of : ℕ → ℕ → ℕ → Option ℕ → ℕ → List ℕ
 row_of call answer datum physical ktcs =
     decimal call ++ tab ++ decimal answer ++ tab ++ octal6 datum ++ tab ++ address_text physical ++ tab ++ octal6 ktcs ++ newline
 

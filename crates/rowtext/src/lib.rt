@@ -1,119 +1,114 @@
-// The lines that the bench program prints. Each is put together from its end, since a number's last digit is found first.
+// The lines that the bench program prints. Each is put into a text that has room for it, so no call can fail: they are no `Display`, whose `fmt`
+// can.
 #![tactic(auto)]
 
-ghost use Rattle.std.specs.Prelude.{◌≡◌, [], ◌∷◌, ◌++◌, ◌≤◌, drop};
-ghost use Rattle.rowtext.specs.Digits.{octal6, decimal};
+ghost use Rattle.std.specs.Prelude.{◌≡◌, ◌+◌, ◌≤◌, ◌++◌, length};
+ghost use Rattle.rowtext.specs.Digits.{octals, octal6, decimal};
 ghost use Rattle.rowtext.specs.Row.{address_text, row_of, bad_of, header_of};
-ghost use Rattle.rowtext.specs.Written.{no_text, Room, Ahead};
 
-// A line of the output: the bytes from `from` on.
-#[derive(Clone, Copy)]
-pub struct Text {
-    pub bytes: [u8; 64],
-    pub from: usize,
-}
+use fewbytes::FewBytes;
 
-// A physical address as a row prints it: six digits, or a dash where the call has none.
-#[derive(Clone, Copy)]
-pub enum Printed {
-    At(u32),
-    Dash,
-}
+// A line of the output. The longest row has 48 bytes.
+pub type Text = FewBytes<64>;
 
-const TAB: u8 = 9;
-
-const NEWLINE: u8 = 10;
-
-// The text of a line that prints nothing.
-pub fn empty() -> Text
-    ensures { (result ≡ no_text) × Room result 64 }
+// The last `count` octal digits of n.
+#[tactic(auto, using(crate::proofs::Figures::octals_more, crate::proofs::Figures::octals_none))]
+fn push_octals(text: &mut Text, count: usize, n: u32)
+    requires { length text.old + count ≤ 64 }
+    ensures digits { text.new ≡ text.old ++ octals count n }
+    ensures len { length text.new ≡ length text.old + count }
 {
-    Text {
-        bytes: [0u8; 64],
-        from: 64,
+    if count > 0 {
+        push_octals(text, count - 1, n / 8);
+        text.push(b'0' + (n % 8) as u8);
     }
 }
 
-// The byte b before what stands there.
-fn ahead(t: Text, b: u8) -> Text
-    requires { Room t 1 }
-    ensures { Ahead t result (b ∷ []) 1 }
-{
-    let at = t.from - 1;
-    let mut out = t;
-    out.bytes[at] = b;
-    out.from = at;
-    out
-}
-
-// Six octal digits, and the byte that ends the field.
+// "six digits each"
 #[tactic(auto, unfolding(crate::specs::Digits::octal6))]
-fn octal_ahead(t: Text, n: u32, end: u8) -> Text
-    requires { Room t 7 }
-    ensures { Ahead t result (octal6 n ++ end ∷ []) 7 }
+fn push_octal(text: &mut Text, n: u32)
+    requires { length text.old + 6 ≤ 64 }
+    ensures digits { text.new ≡ text.old ++ octal6 n }
+    ensures len { length text.new ≡ length text.old + 6 }
 {
-    let mut out = ahead(t, end);
-    let mut rest = n;
-    let mut left: usize = 6;
-    while 0 < left {
-        out = ahead(out, 48 + (rest % 8) as u8);
-        rest = rest / 8;
-        left -= 1;
-    }
-    out
+    push_octals(text, 6, n);
 }
 
-// The decimal digits of n, at most 20 of them, and the byte that ends the field.
-fn decimal_ahead(t: Text, n: u64, end: u8) -> Text
-    requires { Room t 21 }
-    ensures { Ahead t result (decimal n ++ end ∷ []) 21 }
+// All decimal digits of n: as many as it has, where `push_octals` writes as many as it is asked for, zeros in front.
+#[tactic(auto, using(crate::proofs::Figures::decimal_one, crate::proofs::Figures::decimal_more, crate::proofs::Figures::decimal_length_more, crate::proofs::Figures::decimal_leaves))]
+fn push_decimals(text: &mut Text, n: u64)
+    requires { length text.old + length (decimal n) ≤ 64 }
+    ensures { text.new ≡ text.old ++ decimal n }
 {
-    let mut out = ahead(t, end);
-    let mut rest = n;
-    while 9 < rest {
-        out = ahead(out, 48 + (rest % 10) as u8);
-        rest = rest / 10;
+    if n < 10 {
+        text.push(b'0' + n as u8);
+        return;
     }
-    ahead(out, 48 + rest as u8)
+    push_decimals(text, n / 10);
+    text.push(b'0' + (n % 10) as u8);
+}
+
+// At most 20 digits.
+#[tactic(auto, using(crate::proofs::Figures::decimal_length, crate::proofs::Figures::decimal_takes))]
+fn push_decimal(text: &mut Text, n: u64)
+    requires { length text.old + 20 ≤ 64 }
+    ensures digits { text.new ≡ text.old ++ decimal n }
+    ensures len { length text.new ≤ length text.old + 20 }
+{
+    push_decimals(text, n);
 }
 
 // "physical (six digits each, or `-`)"
 #[tactic(auto, unfolding(crate::specs::Row::address_text))]
-fn place_ahead(t: Text, physical: Printed, end: u8) -> Text
-    requires { Room t 7 }
-    ensures { Ahead t result (address_text physical ++ end ∷ []) 7 }
+fn push_place(text: &mut Text, physical: Option<u32>)
+    requires { length text.old + 6 ≤ 64 }
+    ensures place { text.new ≡ text.old ++ address_text physical }
+    ensures len { length text.new ≤ length text.old + 6 }
 {
     match physical {
-        Printed::At(address) => octal_ahead(t, address, end),
-        Printed::Dash => ahead(ahead(t, end), b'-'),
+        Some(address) => push_octal(text, address),
+        None => text.push(b'-'),
     }
 }
 
 // "Each call prints its decimal number, answer, data, physical (six digits each, or `-`) and KTCS."
 #[tactic(auto, unfolding(crate::specs::Row::row_of))]
-pub fn row(call: u64, answer: u16, datum: u16, physical: Printed, ktcs: u16) -> Text
-    ensures { (drop result.from result.bytes ≡ row_of call answer datum physical ktcs) × (result.from ≤ 64) }
+pub fn row(call: u64, answer: u16, datum: u16, physical: Option<u32>, ktcs: u16) -> Text
+    ensures { result ≡ row_of call answer datum physical ktcs }
 {
-    let status = octal_ahead(empty(), ktcs as u32, NEWLINE);
-    let place = place_ahead(status, physical, TAB);
-    let word = octal_ahead(place, datum as u32, TAB);
-    let told = decimal_ahead(word, answer as u64, TAB);
-    decimal_ahead(told, call, TAB)
+    let mut text = Text::new();
+    push_decimal(&mut text, call);
+    text.push(b'\t');
+    push_decimal(&mut text, u64::from(answer));
+    text.push(b'\t');
+    push_octal(&mut text, u32::from(datum));
+    text.push(b'\t');
+    push_place(&mut text, physical);
+    text.push(b'\t');
+    push_octal(&mut text, u32::from(ktcs));
+    text.push(b'\n');
+    text
 }
 
 // "A bad line prints `BAD`, tab, its decimal line number."
 #[tactic(auto, unfolding(crate::specs::Row::bad_of))]
 pub fn bad_line(number: u64) -> Text
-    ensures { (drop result.from result.bytes ≡ bad_of number) × (result.from ≤ 64) }
+    ensures { result ≡ bad_of number }
 {
-    let numbered = ahead(decimal_ahead(empty(), number, NEWLINE), TAB);
-    ahead(ahead(ahead(numbered, b'D'), b'A'), b'B')
+    let mut text = Text::new();
+    text.push(b'B');
+    text.push(b'A');
+    text.push(b'D');
+    text.push(b'\t');
+    push_decimal(&mut text, number);
+    text.push(b'\n');
+    text
 }
 
 // The names over the columns.
 #[tactic(auto, unfolding(crate::specs::Row::header_of))]
-pub fn header() -> [u8; 24]
-    ensures { result ≡ header_of }
+pub fn header() -> &'static [u8]
+    ensures { result.now ≡ header_of }
 {
-    *b"CALL\tANS\tDATA\tPHYS\tKTCS\n"
+    b"CALL\tANS\tDATA\tPHYS\tKTCS\n"
 }

@@ -7,7 +7,8 @@ use mathlib.Core.Logic.{◌≢◌, ◌↔◌}
 use mathlib.Core.List.{List, [], ◌∷◌, ◌++◌}
 use lib.Dec.{eqb}
 use lib.ListN.{length, get_or, replicate}
-use Rattle.rules.specs.Types.{Wait, Ktcs, Fetch, Core, Maps, Cell, Size, Making, Cells, Unit, Access, Call, Found, Associative, Target, Place, Part, Walk, Entry, Looked, Due, Fault, Answer, Physical, Effect, Job}
+use Rattle.std.specs.Prelude.{Some, None}
+use Rattle.rules.specs.Types.{Wait, Ktcs, Fetch, Core, Maps, Cell, Size, Cells, Unit, Access, Call, Associative, Target, Place, Part, Entry, Looked, Due, Fault, Answer, Effect, Job}
 use Rattle.rules.specs.Choice.{pick}
 use Rattle.rules.specs.Memory.{Memory}
 use Rattle.rules.specs.Unit.{count_of, size_of, room, there, empty_cell, cell_at, clear_fetch}
@@ -193,13 +194,13 @@ Numbered = (m : Memory) (u : Unit) (c : Call) → number_of (call_of m u c) < 11
 abbrev pub BareRefusals : Type 0
 BareRefusals =
     (m : Memory) (u : Unit) (c : Call) → number_of (call_of m u c) ≢ 0 → number_of (call_of m u c) ≢ 8
-    → shown (call_of m u c).reply.answer ≡ record { number = number_of (call_of m u c); datum = 0; physical = Physical.Nowhere }
+    → shown (call_of m u c).reply.answer ≡ record { number = number_of (call_of m u c); datum = 0; physical = None }
 
 -- "18-bit address": of an access at a 16-bit address, each physical address that comes back is one
 abbrev pub EighteenBits : Type 0
 EighteenBits =
     (m : Memory) (u : Unit) (q : Access) (at : ℕ) → q.addr < 0o200000
-    → (shown (call_of m u (Call.Access q)).reply.answer).physical ≡ Physical.At at → at < 0o1000000
+    → (shown (call_of m u (Call.Access q)).reply.answer).physical ≡ Some at → at < 0o1000000
 
 -- Demand 1: the two reasons, a walk that ran off memory (10) and a target that is not there (9) ---------------------------
 
@@ -222,7 +223,7 @@ pub record Paged (m : Memory) (u : Unit) (q : Access) : Type 0 where
 -- "The walk itself should report that it ran off memory" (T-01): the page is walked, since no cell of k holds it, and its walk does not finish
 pub record RanOff (m : Memory) (r : Maps) (k : Cells) (user : Bool) (p : ℕ) : Type 0 where
   pub no_cell : (i : ℕ) → (cell_at k i).tag ≢ tag_of user p
-  pub walk : walk_of m r user p ≡ Walk.Off
+  pub walk : walk_of m r user p ≡ None
 
 -- the walk of the access's own page; exec page 0 is never walked
 pub record OuterRanOff (m : Memory) (u : Unit) (q : Access) : Type 0 where
@@ -342,7 +343,7 @@ pub record Step6Keeps (user : Bool) (p : ℕ) (k : Cells) (l : Looked) : Type 0 
   pub size : l.cells.size ≡ k.size
   pub count : length (there l.cells) ≡ length (there k)
   pub others : (i : ℕ) → i ≢ k.counter - 0o10 → cell_at l.cells i ≡ cell_at k i
-  pub hit : {i : ℕ} → cell_of k (tag_of user p) ≡ Found.At i → l.cells ≡ k
+  pub hit : {i : ℕ} → cell_of k (tag_of user p) ≡ Some i → l.cells ≡ k
   pub ran_off : l.entry ≡ Entry.OffMap → l.cells ≡ k
   pub at_exec_zero : exec_zero user p ≡ true → l.cells ≡ k
 
@@ -521,13 +522,13 @@ pub record FreshUnit (s : Size) (u : Unit) : Type 0 where
 
 -- "8 and 24 give a fresh unit .. Every other number gives 30 and no unit." (T-08): the sizes by the number that is asked for
 pub record MadeOrRefused : Type 0 where
-  pub eight : size_of 8 ≡ Making.With Size.Eight
-  pub of_twenty_four : size_of 24 ≡ Making.With Size.TwentyFour
-  pub other : (n : ℕ) → n ≢ 8 → n ≢ 24 → size_of n ≡ Making.OtherCount
+  pub eight : size_of 8 ≡ Some Size.Eight
+  pub of_twenty_four : size_of 24 ≡ Some Size.TwentyFour
+  pub other : (n : ℕ) → n ≢ 8 → n ≢ 24 → size_of n ≡ None
   -- what is made has as many cells as were asked for
-  pub count : (n : ℕ) (s : Size) → size_of n ≡ Making.With s → count_of s ≡ n
-  pub made : (s : Size) → making_shown (Making.With s) ≡ record { number = 0; datum = 0; physical = Physical.Nowhere }
-  pub refused : making_shown Making.OtherCount ≡ record { number = 30; datum = 0; physical = Physical.Nowhere }
+  pub count : (n : ℕ) (s : Size) → size_of n ≡ Some s → count_of s ≡ n
+  pub made : (s : Size) → making_shown (Some s) ≡ record { number = 0; datum = 0; physical = None }
+  pub refused : making_shown None ≡ record { number = 30; datum = 0; physical = None }
   pub fresh-unit : (s : Size) → FreshUnit s (fresh s)
 
 -- "Cell i (from 0) is the one that the counter names at 10o + i" (T-08): the one that a finished walk fills, and the one whose scratchpad word

@@ -8,7 +8,8 @@ use lib.Dec.{eqb}
 use lib.ListN.{get_or, set}
 use lib.Seq.{get_or-set_same}
 use borrow.Author.Tests.{eqb-true, ne_eqb, lt-ltb, le-ltb}
-use Rattle.rules.specs.Types.{Core, Maps, Cell, Size, Making, Cells, Unit, Found, Associative, Part, Walk, Looked, Effect, Outcome, Ran}
+use Rattle.std.specs.Prelude.{Option, Some, None}
+use Rattle.rules.specs.Types.{Core, Maps, Cell, Size, Cells, Unit, Associative, Part, Walked, Looked, Effect, Outcome, Ran}
 use Rattle.rules.specs.Choice.{pick}
 use Rattle.rules.specs.Memory.{Memory}
 use Rattle.rules.specs.Unit.{count_of, size_of, there, empty_cell, cell_at, emptied, clear_ktcs, clear_fetch, init_core, zero_unit}
@@ -25,12 +26,12 @@ use Rattle.rules.proofs.Promises.{FreshUnit, MadeOrRefused, CellByCounter, SizeS
 
 -- Making -------------------------------------------------------------------------------------------------------------------
 
-made_count : (n : ℕ) (s : Size) → size_of n ≡ Making.With s → count_of s ≡ n
+made_count : (n : ℕ) (s : Size) → size_of n ≡ Some s → count_of s ≡ n
 unfolding size_of count_of pick
 made_count n s = go (eqb n 8) refl (eqb n 24) refl
   where
     go : (a : Bool) → eqb n 8 ≡ a → (b : Bool) → eqb n 24 ≡ b
-        → pick a (Making.With Size.Eight) (pick b (Making.With Size.TwentyFour) Making.OtherCount) ≡ Making.With s → count_of s ≡ n
+        → pick a (Some Size.Eight) (pick b (Some Size.TwentyFour) None) ≡ Some s → count_of s ≡ n
     go true t b u e = let z : Size.Eight ≡ s = cc in rw (← z) (sym (eqb-true n 8 t))
     go false t true u e = let z : Size.TwentyFour ≡ s = cc in rw (← z) (sym (eqb-true n 24 u))
     go false t false u e = absurd (let z : ◌≡◌ {A = ℕ} 0 1 = cc in omega arith)
@@ -76,13 +77,13 @@ module _ (m : Memory) (r : Maps) where
   looked-size user p k =
       picked (λ (l : Looked). l.cells.size ≡ k.size) (exec_zero user p) _ _ (λ t. refl) (λ t. sought (cell_of k (tag_of user p)))
     where
-      by_walk : (w : Walk) → (filled_by k (tag_of user p) w).size ≡ k.size
-      by_walk (Walk.Finished w rs) = refl
-      by_walk Walk.Off = refl
+      by_walk : (w : Option Walked) → (filled_by k (tag_of user p) w).size ≡ k.size
+      by_walk (Some w) = refl
+      by_walk None = refl
 
-      sought : (f : Found) → (sought_in m r user p k f).cells.size ≡ k.size
-      sought (Found.At i) = refl
-      sought Found.Missing = by_walk (walk_of m r user p)
+      sought : (f : Option ℕ) → (sought_in m r user p k f).cells.size ≡ k.size
+      sought (Some i) = refl
+      sought None = by_walk (walk_of m r user p)
 
   run-size : (p : Prog) (k : Cells) → (run m r p k).cells.size ≡ k.size
   unfolding run
@@ -179,13 +180,13 @@ module _ (m : Memory) (r : Maps) where
   unfolding looked sought_in missed filled_by pick
   looked-alike user p k l h = zero (exec_zero user p)
     where
-      by_walk : (w : Walk) → LookedAlike (missed k (tag_of user p) w) (missed l (tag_of user p) w)
-      by_walk (Walk.Finished w rs) = record { entry = refl; cells = filled-alike k l h (tag_of user p) w }
-      by_walk Walk.Off = record { entry = refl; cells = h }
+      by_walk : (w : Option Walked) → LookedAlike (missed k (tag_of user p) w) (missed l (tag_of user p) w)
+      by_walk (Some w) = record { entry = refl; cells = filled-alike k l h (tag_of user p) w.word }
+      by_walk None = record { entry = refl; cells = h }
 
-      sought : (f : Found) → LookedAlike (sought_in m r user p k f) (sought_in m r user p l f)
-      sought (Found.At i) = record { entry = rw h.cells; cells = h }
-      sought Found.Missing = by_walk (walk_of m r user p)
+      sought : (f : Option ℕ) → LookedAlike (sought_in m r user p k f) (sought_in m r user p l f)
+      sought (Some i) = record { entry = rw h.cells; cells = h }
+      sought None = by_walk (walk_of m r user p)
 
       zero : (t : Bool)
           → LookedAlike

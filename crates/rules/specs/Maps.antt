@@ -1,6 +1,6 @@
 -- From address to entry: unpaged or paged, page and offset, the maps, the walk, the cells (01, "From address to entry").
-use Rattle.std.specs.Prelude.{ℕ, ◌+◌, ◌-◌, ◌*◌, ◌/◌, ◌%◌, Bool, not, ◌&&◌, ◌||◌, List, [], ◌∷◌, map, eqb, ltb, leb, length, set}
-use Rattle.rules.specs.Types.{Maps, Cell, Cells, Found, Reads, Walk, Entry, Looked}
+use Rattle.std.specs.Prelude.{ℕ, ◌+◌, ◌-◌, ◌*◌, ◌/◌, ◌%◌, Bool, not, ◌&&◌, ◌||◌, List, [], ◌∷◌, map, eqb, ltb, leb, length, set, Option, Some, None}
+use Rattle.rules.specs.Types.{Maps, Cell, Cells, Reads, Walked, Entry, Looked}
 use Rattle.rules.specs.Choice.{pick}
 use Rattle.rules.specs.Memory.{Memory, word_at}
 use Rattle.rules.specs.Status.{bit_in}
@@ -61,33 +61,37 @@ pointed_at w = upper_at (low9 w) (high7 w)
 
 -- A walk that reads the word at this address: "A map word or pointer at or beyond L is a time-out.", and "The walk itself should report that it ran
 -- off memory" (T-01). No map word is read from a register: these stand beyond every L that 01 allows.
-unfoldable pub unless_off : Memory → ℕ → Walk → Walk
-unless_off m at w = pick (ltb at (length m)) w Walk.Off
+unfoldable pub unless_off : Memory → ℕ → Option Walked → Option Walked
+unless_off m at w = pick (ltb at (length m)) w None
+
+-- a walk that ended: the map word, and where the words stand that were read for it
+abbrev pub finished : ℕ → Reads → Option Walked
+finished w rs = Some (record { word = w; reads = rs })
 
 -- a map word that stands at a place
-unfoldable pub word_walk : Memory → ℕ → Walk
-word_walk m at = unless_off m at (Walk.Finished (word_at m at) (Reads.Direct at))
+unfoldable pub word_walk : Memory → ℕ → Option Walked
+word_walk m at = unless_off m at (finished (word_at m at) (Reads.Direct at))
 
 -- the map word that a pointer leads to, and "never a pointer again"
-unfoldable pub followed : Memory → ℕ → ℕ → Walk
-followed m from at = unless_off m at (Walk.Finished (word_at m at) (Reads.Pointed from at))
+unfoldable pub followed : Memory → ℕ → ℕ → Option Walked
+followed m from at = unless_off m at (finished (word_at m at) (Reads.Pointed from at))
 
 -- "Other user pages: the word at that same place is a pointer, high 7 bits n, low 9 bits m; the map word is at 512·m+256+2n"
-unfoldable pub pointer_walk : Memory → ℕ → Walk
+unfoldable pub pointer_walk : Memory → ℕ → Option Walked
 pointer_walk m from = unless_off m from (followed m from (pointed_at (word_at m from)))
 
 -- "Exec simple: word at 512·M(KTEM)+256+2p. Other exec pages: word at 512·M(KTUM)+2p."
-unfoldable pub exec_walk : Memory → Maps → ℕ → Walk
+unfoldable pub exec_walk : Memory → Maps → ℕ → Option Walked
 exec_walk m r p =
     pick (simple r.ktem p) (word_walk m (upper_at (low9 r.ktem) p)) (word_walk m (lower_at (low9 r.ktum) p))
 
 -- "User simple: word at 512·M(KTUM)+256+2p. Other user pages: the word at that same place is a pointer"
-unfoldable pub user_walk : Memory → Maps → ℕ → Walk
+unfoldable pub user_walk : Memory → Maps → ℕ → Option Walked
 user_walk m r p =
     pick (simple r.ktum p) (word_walk m (upper_at (low9 r.ktum) p)) (pointer_walk m (upper_at (low9 r.ktum) p))
 
 -- the walk of a page that is not exec page 0
-unfoldable pub walk_of : Memory → Maps → Bool → ℕ → Walk
+unfoldable pub walk_of : Memory → Maps → Bool → ℕ → Option Walked
 walk_of m r user p = pick user (user_walk m r p) (exec_walk m r p)
 
 -- "Its map words are those the walk read, pointer included.": their addresses
@@ -96,9 +100,9 @@ reads_of (Reads.Direct at) = at ∷ []
 reads_of (Reads.Pointed from at) = from ∷ at ∷ []
 
 -- what a walk gives the access
-unfoldable pub entry_of : Walk → Entry
-entry_of (Walk.Finished w rs) = Entry.Mapped w
-entry_of Walk.Off = Entry.OffMap
+unfoldable pub entry_of : Option Walked → Entry
+entry_of (Some w) = Entry.Mapped w.word
+entry_of None = Entry.OffMap
 
 -- "Exec page 0": the only page that has neither map word nor cell
 unfoldable pub exec_zero : Bool → ℕ → Bool
@@ -121,7 +125,7 @@ unfoldable pub tag_in : Cell → ℕ
 tag_in h = h.tag
 
 -- which cell holds a page
-unfoldable pub cell_of : Cells → ℕ → Found
+unfoldable pub cell_of : Cells → ℕ → Option ℕ
 cell_of k tag = found_from 0 (map tag_in (there k)) tag
 
 -- "then the counter steps 10o to 17o and round", the last being 7 more than there are cells: "With 24 the counter runs 10o to 37o" (T-08). The
@@ -139,18 +143,18 @@ filled k tag w =
     }
 
 -- "A finished walk fills the cell .. A walk that times out fills nothing.", which is one that ran off memory
-unfoldable pub filled_by : Cells → ℕ → Walk → Cells
-filled_by k tag (Walk.Finished w rs) = filled k tag w
-filled_by k tag Walk.Off = k
+unfoldable pub filled_by : Cells → ℕ → Option Walked → Cells
+filled_by k tag (Some w) = filled k tag w.word
+filled_by k tag None = k
 
 -- a page that no cell holds
-unfoldable pub missed : Cells → ℕ → Walk → Looked
+unfoldable pub missed : Cells → ℕ → Option Walked → Looked
 missed k tag w = record { entry = entry_of w; cells = filled_by k tag w }
 
 -- "A hit uses the cell."
-unfoldable pub sought_in : Memory → Maps → Bool → ℕ → Cells → Found → Looked
-sought_in m r user p k (Found.At i) = record { entry = Entry.Mapped (cell_at k i).word; cells = k }
-sought_in m r user p k Found.Missing = missed k (tag_of user p) (walk_of m r user p)
+unfoldable pub sought_in : Memory → Maps → Bool → ℕ → Cells → Option ℕ → Looked
+sought_in m r user p k (Some i) = record { entry = Entry.Mapped (cell_at k i).word; cells = k }
+sought_in m r user p k None = missed k (tag_of user p) (walk_of m r user p)
 
 -- Step 6: how an access gets the entry of its page, and what that leaves in the cells.
 unfoldable pub looked : Memory → Maps → Bool → ℕ → Cells → Looked

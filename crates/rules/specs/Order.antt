@@ -1,6 +1,6 @@
 -- An access as the sequence of its steps (01, "Order in one access"): from its last pieces to the whole.
-use Rattle.std.specs.Prelude.{ℕ, Bool, true, false, ltb, length, get_or, set}
-use Rattle.rules.specs.Types.{Fetch, Core, Maps, Size, Cells, Access, Operating, Associative, Register, Target, Place, Part, Entry, Due, Fault, Ruling, Answer, Effect, Outcome, Job}
+use Rattle.std.specs.Prelude.{ℕ, Bool, true, false, ltb, length, get_or, set, Result, Ok, Err}
+use Rattle.rules.specs.Types.{Fetch, Core, Maps, Size, Cells, Access, Operating, Associative, Register, Target, Place, Part, Entry, Due, Fault, Answer, Effect, Outcome, Job}
 use Rattle.rules.specs.Choice.{pick}
 use Rattle.rules.specs.Memory.{Memory, word_at, even_of}
 use Rattle.rules.specs.Unit.{with_ktcs, with_kept, with_fetch}
@@ -165,9 +165,9 @@ inner_target m j at Place.Window = inner_fault j Fault.NoTarget
 inner_target m j at Place.Nowhere = inner_fault j Fault.NoTarget
 
 -- what steps 6 to 8 say of the inner page's entry, and the target of step 10
-unfoldable pub inner_ruled : Memory → Job → Ruling → Prog
-inner_ruled m j (Ruling.Refused f) = inner_fault j f
-inner_ruled m j (Ruling.Granted page) =
+unfoldable pub inner_ruled : Memory → Job → Result ℕ Fault → Prog
+inner_ruled m j (Err f) = inner_fault j f
+inner_ruled m j (Ok page) =
     inner_target m j (physical_at page (window_addr j)) (place_of j.size (length m) (physical_at page (window_addr j)))
 
 -- step 5 again, and the inner page's entry for steps 6 to 8, "with no privacy step"
@@ -189,9 +189,9 @@ outer_target m j at e Place.Window = pick (is_fetch j.q) (outer_fault j Fault.No
 outer_target m j at e Place.Nowhere = outer_fault j Fault.NoTarget
 
 -- what steps 6 to 9 say of the entry, and the target of step 10
-unfoldable pub outer_ruled : Memory → Job → Entry → Ruling → Prog
-outer_ruled m j e (Ruling.Refused f) = outer_fault j f
-outer_ruled m j e (Ruling.Granted page) =
+unfoldable pub outer_ruled : Memory → Job → Entry → Result ℕ Fault → Prog
+outer_ruled m j e (Err f) = outer_fault j f
+outer_ruled m j e (Ok page) =
     outer_target m j (physical_at page j.q.addr) e (place_of j.size (length m) (physical_at page j.q.addr))
 
 -- step 5, and step 6's question for the page's entry

@@ -1,24 +1,19 @@
 -- The register table: which address is which register, and reading and storing by word and by byte (01, "Registers").
-use Rattle.std.specs.Prelude.{ℕ, suc, zero, ◌+◌, ◌-◌, ◌*◌, ◌/◌, ◌%◌, Bool, true, false, List, [], ◌∷◌, ◌++◌, eqb, ltb, get_or, set}
-use Rattle.rules.specs.Types.{Core, Maps, Cell, Size, Cells, Found, Operating, Associative, Register, Target, Place, Part}
+use Rattle.std.specs.Prelude.{ℕ, suc, zero, ◌+◌, ◌-◌, ◌*◌, ◌/◌, ◌%◌, Bool, List, [], ◌∷◌, ◌++◌, eqb, ltb, get_or, set, Option, Some, None, is_some}
+use Rattle.rules.specs.Types.{Core, Maps, Cell, Size, Cells, Operating, Associative, Register, Target, Place, Part}
 use Rattle.rules.specs.Choice.{pick}
 use Rattle.rules.specs.Memory.{even_of}
 use Rattle.rules.specs.Unit.{count_of, cell_at, kept_count}
 use Rattle.rules.specs.Status.{packed}
 
 -- where a list has x first, counting from i: the one search, for vectors, registers, cells and map words
-unfoldable pub found_from : ℕ → List ℕ → ℕ → Found
-found_from i [] x = Found.Missing
-found_from i (y ∷ ys) x = pick (eqb x y) (Found.At i) (found_from (suc i) ys x)
-
--- whether a search came to something
-unfoldable pub is_found : Found → Bool
-is_found (Found.At i) = true
-is_found Found.Missing = false
+unfoldable pub found_from : ℕ → List ℕ → ℕ → Option ℕ
+found_from i [] x = None
+found_from i (y ∷ ys) x = pick (eqb x y) (Some i) (found_from (suc i) ys x)
 
 -- whether a list has x
 unfoldable pub among : ℕ → List ℕ → Bool
-among x ys = is_found (found_from 0 ys x)
+among x ys = is_some (found_from 0 ys x)
 
 -- even addresses, n of them from a on
 unfoldable pub words_from : ℕ → ℕ → List ℕ
@@ -53,9 +48,9 @@ unfoldable pub place_in : ℕ → Place
 place_in n = pick (eqb n 0) Place.Window (Place.There (Target.In (register_of (n - 1))))
 
 -- what a search of the table comes to: an address that it does not have is that of nothing
-unfoldable pub place_found : Found → Place
-place_found Found.Missing = Place.Nowhere
-place_found (Found.At n) = place_in n
+unfoldable pub place_found : Option ℕ → Place
+place_found None = Place.Nowhere
+place_found (Some n) = place_in n
 
 -- What lies at a physical address, for a unit of this size with memory of this length: step 10's "at or beyond L and not a register above". L is
 -- at most 760000o, so no register lies in memory.

@@ -1,7 +1,7 @@
 -- For demand 3: runs of calls, what each call did, pages in use, outdated and forgotten, the premises, and the unit with no cells. The quotations
 -- are 01's ("From address to entry") or, where they say so, demand 3's own.
-use Rattle.std.specs.Prelude.{ℕ, Bool, true, false, not, ◌&&◌, ◌||◌, List, [], ◌∷◌, ◌++◌, eqb}
-use Rattle.rules.specs.Types.{Core, Maps, Size, Cells, Unit, Call, Walk, Answer, Effect, Outcome}
+use Rattle.std.specs.Prelude.{ℕ, Bool, true, false, not, ◌&&◌, ◌||◌, List, [], ◌∷◌, ◌++◌, eqb, Option, Some, None}
+use Rattle.rules.specs.Types.{Core, Maps, Size, Cells, Unit, Call, Walked, Answer, Effect, Outcome}
 use Rattle.rules.specs.Choice.{pick}
 use Rattle.rules.specs.Memory.{Memory, even_of}
 use Rattle.rules.specs.Registers.{among, peeked}
@@ -87,7 +87,7 @@ plain_along m u (c ∷ cs) = plain_call m u c ∷ plain_along (plain_call m u c)
 -- a page that an access goes to, and the walk of its maps
 pub record Visit : Type 0 where
   pub tag : ℕ
-  pub walk : Walk
+  pub walk : Option Walked
 
 -- A page that is gone to. Exec page 0 has no map words that could be stored into, so it is left out.
 unfoldable pub visit : Memory → Maps → Bool → ℕ → List Visit
@@ -153,11 +153,11 @@ unfoldable pub none_in_use : History
 none_in_use t = unused
 
 -- "A page comes into use when an access gets its entry.": a walk that ran off memory gives none. One that is in use stays as it came.
-unfoldable pub used_by : Walk → Use → Use
-used_by (Walk.Finished w rs) unused = in_use (reads_of rs)
-used_by (Walk.Finished w rs) (in_use ws) = in_use ws
-used_by (Walk.Finished w rs) outdated = outdated
-used_by Walk.Off u = u
+unfoldable pub used_by : Option Walked → Use → Use
+used_by (Some w) unused = in_use (reads_of w.reads)
+used_by (Some w) (in_use ws) = in_use ws
+used_by (Some w) outdated = outdated
+used_by None u = u
 
 -- the history with another word about one page
 unfoldable pub told : History → ℕ → Use → History

@@ -1,7 +1,7 @@
 -- The tests of the eleven steps of an access, in their order. Step 4, which refuses nothing, is `noted` of Fetched.antt; step 6's walk is `looked` of
 -- Maps.antt; step 10's test is `place_of` of Registers.antt, which Order.antt asks.
-use Rattle.std.specs.Prelude.{ℕ, ◌%◌, Bool, false, not, ◌&&◌, ◌||◌, eqb, ltb}
-use Rattle.rules.specs.Types.{Fetch, Wait, Core, Access, Kind, Due, Entry, Fault, Ruling}
+use Rattle.std.specs.Prelude.{ℕ, ◌%◌, Bool, false, not, ◌&&◌, ◌||◌, eqb, ltb, Result, Ok, Err}
+use Rattle.rules.specs.Types.{Fetch, Wait, Core, Access, Kind, Due, Entry, Fault}
 use Rattle.rules.specs.Choice.{pick}
 use Rattle.rules.specs.Memory.{good_length}
 use Rattle.rules.specs.Maps.{resident_bit, public_bit, write_bit, low9}
@@ -56,16 +56,16 @@ odd_word width a = eqb width 0 && eqb (a % 2) 1
 -- Steps 6 to 9 -----------------------------------------------------------------------------------------------------------
 
 -- "7. Residency (5). 8. Write key for operations 1-3 (6). 9. Privacy (7)." of a map word; `watched` says that privacy is asked
-unfoldable pub keys_of : ℕ → Bool → ℕ → Ruling
+unfoldable pub keys_of : ℕ → Bool → ℕ → Result ℕ Fault
 keys_of op watched w =
-    pick (not (resident_bit w)) (Ruling.Refused Fault.NotResident)
-    (pick (not (eqb op 0) && not (write_bit w)) (Ruling.Refused Fault.NotWritable)
-    (pick (watched && not (public_bit w)) (Ruling.Refused Fault.NotPublic) (Ruling.Granted (low9 w))))
+    pick (not (resident_bit w)) (Err Fault.NotResident)
+    (pick (not (eqb op 0) && not (write_bit w)) (Err Fault.NotWritable)
+    (pick (watched && not (public_bit w)) (Err Fault.NotPublic) (Ok (low9 w))))
 
 -- "6. Walk (9).", where "10 takes 9's place" (T-01), and the keys. "Exec page 0: physical page M of KTEM, no cell, every key passes."
-unfoldable pub judged : ℕ → Bool → Entry → Ruling
-judged op watched Entry.OffMap = Ruling.Refused Fault.NoMapWord
-judged op watched (Entry.ExecZero page) = Ruling.Granted page
+unfoldable pub judged : ℕ → Bool → Entry → Result ℕ Fault
+judged op watched Entry.OffMap = Err Fault.NoMapWord
+judged op watched (Entry.ExecZero page) = Ok page
 judged op watched (Entry.Mapped w) = keys_of op watched w
 
 -- whether step 9 asks: "Privacy: not a fetch, flag set, page private."

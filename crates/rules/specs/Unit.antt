@@ -1,6 +1,6 @@
 -- The unit's state, its emptying and its clearing (01, "The unit and its calls" and the end of "Registers").
-use Rattle.std.specs.Prelude.{ℕ, false, List, [], ◌∷◌, eqb, length, get_or, take, replicate}
-use Rattle.rules.specs.Types.{Ktcs, Fetch, Wait, Core, Cell, Size, Making, Cells, Unit}
+use Rattle.std.specs.Prelude.{ℕ, false, List, [], ◌∷◌, eqb, length, get_or, take, replicate, Option, Some, None}
+use Rattle.rules.specs.Types.{Ktcs, Fetch, Wait, Core, Cell, Size, Cells, Unit}
 use Rattle.rules.specs.Choice.{pick}
 
 -- How many cells a unit has: "A unit is made with 8 or 24 cells." (T-08) Everything that 01 says of eight cells reads with this number.
@@ -9,8 +9,8 @@ count_of Size.Eight = 8
 count_of Size.TwentyFour = 24
 
 -- what comes of asking for a unit with so many: "making a unit with another count gives 30 and no unit" (T-08)
-unfoldable pub size_of : ℕ → Making
-size_of n = pick (eqb n 8) (Making.With Size.Eight) (pick (eqb n 24) (Making.With Size.TwentyFour) Making.OtherCount)
+unfoldable pub size_of : ℕ → Option Size
+size_of n = pick (eqb n 8) (Some Size.Eight) (pick (eqb n 24) (Some Size.TwentyFour) None)
 
 -- how many cells there is room for in every unit
 abbrev pub room : ℕ

@@ -5,10 +5,19 @@
 
 // The unit and its calls -----------------------------------------------------------------------------------------------
 
+// What FCN asks for, in the order of its values. The field is a number, since a KTCS with any number in it is one.
+#[derive(Clone, Copy)]
+pub enum Paging {
+    Unpaged,
+    DestinationOnly,
+    Normal,
+    StartUser,
+}
+
 // KTCS by its named fields. The packing into 16 bits is `packed` of specs/Status.antt.
 #[derive(Clone, Copy)]
 pub struct Ktcs {
-    // FCN, bits 1-0: 0 unpaged, 1 destination only, 2 normal paging, 3 start user.
+    // FCN, bits 1-0: 0 unpaged, 1 destination only, 2 normal paging, 3 start user (`Paging`).
     pub fcn: u16,
     // SS, bit 2: source state.
     pub ss: bool,
@@ -71,7 +80,7 @@ pub struct Maps {
     pub ktem: u16,
 }
 
-// A cell: the tag of the page that it holds, or 0 where it is empty, and its scratchpad word.
+// A cell: the tag of the page that it holds, or 0 where it is empty ("0 means empty", and in the words of a host too), and its scratchpad word.
 #[derive(Clone, Copy)]
 pub struct Cell {
     pub tag: u16,
@@ -85,15 +94,7 @@ pub enum Size {
     TwentyFour,
 }
 
-// What comes of asking for a unit with a number of cells.
-#[derive(Clone, Copy)]
-pub enum Making {
-    With(Size),
-    // A number that no unit is made with.
-    OtherCount,
-}
-
-// How many cells there is room for: as many as the larger unit has.
+// How many cells there is room for, in the unit itself and not on a heap: as many as the larger unit has.
 pub const ROOM: usize = 24;
 
 // The cells and the replacement counter, which counts from 10 octal. A unit has the first so many of the list as its size says; those
@@ -112,7 +113,34 @@ pub struct Unit {
     pub cells: Cells,
 }
 
-// One access as the processor asks for it. Operation, state and width are numbers of any size.
+// "Operations: 0 DATI, 1 DATIP, 2 DATO, 3 DATOB": in the order of their numbers.
+#[derive(Clone, Copy)]
+pub enum Operation {
+    Dati,
+    Datip,
+    Dato,
+    Datob,
+}
+
+// "States: 0 FETCH, 1 SOURCE, 2 DESTINATION, 3 EXECUTE, 4 SERVICE": in the order of their numbers.
+#[derive(Clone, Copy)]
+pub enum State {
+    Fetch,
+    Source,
+    Destination,
+    Execute,
+    Service,
+}
+
+// "Width: 0 word, 1 byte": in the order of their numbers.
+#[derive(Clone, Copy)]
+pub enum Width {
+    Word,
+    Byte,
+}
+
+// One access as the processor asks for it. Operation, state and width are numbers of any size: each is answered, also where it is none of those
+// above.
 #[derive(Clone, Copy)]
 pub struct Access {
     pub op: u64,
@@ -131,15 +159,8 @@ pub enum Call {
     Init,
 }
 
-// The trap vectors, 4, 10, 14, 20, 24, 30 and 34 octal.
+// The trap vectors, 4, 10, 14, 20, 24, 30 and 34 octal: a constant array that is searched, as that of the registers below is.
 pub const VECTORS: [usize; 7] = [0o4, 0o10, 0o14, 0o20, 0o24, 0o30, 0o34];
-
-// Where a searched list has what is looked for.
-#[derive(Clone, Copy)]
-pub enum Found {
-    At(usize),
-    Missing,
-}
 
 // Registers ------------------------------------------------------------------------------------------------------------
 
@@ -177,7 +198,7 @@ pub enum Register {
     Associative(Associative),
 }
 
-// What can be read and stored into.
+// What can be read and stored into: memory is as much a target as a register is, so this is no `Option`.
 #[derive(Clone, Copy)]
 pub enum Target {
     Memory,
@@ -213,13 +234,12 @@ pub enum Reads {
     Pointed(usize, usize),
 }
 
-// What a walk of the maps comes to.
+// What a walk of the maps comes to, where no map word or pointer stands at or beyond the end of memory: the map word, and where the words
+// stand that were read for it.
 #[derive(Clone, Copy)]
-pub enum Walk {
-    // The map word, and where the words stand that were read for it.
-    Finished(u16, Reads),
-    // A map word or pointer at or beyond the end of memory.
-    Off,
+pub struct Walked {
+    pub word: u16,
+    pub reads: Reads,
 }
 
 // What an access gets for its page.
@@ -286,13 +306,6 @@ pub enum Fault {
     Forbidden(u16, usize),
 }
 
-// What steps 6 to 9 say of an entry: the physical page, or the step that refused.
-#[derive(Clone, Copy)]
-pub enum Ruling {
-    Granted(u16),
-    Refused(Fault),
-}
-
 // What comes back ------------------------------------------------------------------------------------------------------
 
 #[derive(Clone, Copy)]
@@ -311,19 +324,12 @@ pub enum Answer {
     Fault(Fault),
 }
 
-// The physical address that an answer gives, or none.
-#[derive(Clone, Copy)]
-pub enum Physical {
-    At(usize),
-    Nowhere,
-}
-
-// What comes back of an answer: its number, its data and its physical address.
+// What comes back of an answer: its number, by which a host tells the answers apart, its data and its physical address, or none.
 #[derive(Clone, Copy)]
 pub struct Returned {
     pub number: u16,
     pub datum: u16,
-    pub physical: Physical,
+    pub physical: Option<usize>,
 }
 
 // What a call is to do once its steps have ruled. Nothing else changes memory or the map registers; the cells change by this and by

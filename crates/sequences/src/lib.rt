@@ -5,7 +5,7 @@ ghost use Rattle.std.specs.Prelude.{◌≡◌};
 ghost use Rattle.rules.specs.Unit.{init_core};
 ghost use Rattle.rules.specs.Sequences.{status_stored, program_counter_stored, first_read_done, user_started, interrupted, is_trap, trap_twice, trap_taken, trapped, vector_listed, idle};
 
-use rules::{Core, Fetch, Found, Kind, Wait};
+use rules::{Core, Fetch, Kind, Ktcs, Paging, VECTORS, Wait};
 
 // The two SERVICE stores -----------------------------------------------------------------------------------------------
 
@@ -14,15 +14,10 @@ use rules::{Core, Fetch, Found, Kind, Wait};
 pub fn status_stored(c: Core, v: u16) -> Core
     ensures { result ≡ status_stored c v }
 {
-    let ktcs = c.ktcs;
-    let old = c.kept;
-    let kept = registers::kept_stored(old, registers::KTPS, v);
-    let fetch = c.fetch;
     Core {
-        ktcs,
-        kept,
+        kept: registers::stored(c.kept, registers::KTPS, v),
         wait: Wait::ProgramCounterDue,
-        fetch,
+        ..c
     }
 }
 
@@ -31,19 +26,11 @@ pub fn status_stored(c: Core, v: u16) -> Core
 pub fn program_counter_stored(c: Core, a: u16, v: u16) -> Core
     ensures { result ≡ program_counter_stored c a v }
 {
-    let ktcs = c.ktcs;
-    let old = c.kept;
-    let kept = registers::kept_stored(
-        registers::kept_stored(old, registers::KTSP, a),
-        registers::KTPC,
-        v,
-    );
-    let fetch = c.fetch;
+    let kept = registers::stored(c.kept, registers::KTSP, a);
     Core {
-        ktcs,
-        kept,
+        kept: registers::stored(kept, registers::KTPC, v),
         wait: Wait::Nothing,
-        fetch,
+        ..c
     }
 }
 
@@ -54,48 +41,46 @@ pub fn program_counter_stored(c: Core, a: u16, v: u16) -> Core
 pub fn first_read_done(c: Core) -> Core
     ensures { result ≡ first_read_done c }
 {
-    let ktcs = c.ktcs;
-    let kept = c.kept;
-    let fetch = c.fetch;
     Core {
-        ktcs,
-        kept,
         wait: Wait::SecondReadDue,
-        fetch,
+        ..c
     }
 }
 
 // "the second sets UM, FCN 2 and clears fetch memory"
-#[tactic(auto, unfolding(rules::specs::Sequences::user_started))]
+#[tactic(auto, unfolding(rules::specs::Sequences::user_started, rules::specs::Status::with_modes))]
 pub fn user_started(c: Core) -> Core
     ensures { result ≡ user_started c }
 {
-    let ktcs = status::with_modes(c.ktcs, 2, true, c.ktcs.iu);
-    let kept = c.kept;
-    let fetch = fetched::clear_fetch();
     Core {
-        ktcs,
-        kept,
+        ktcs: Ktcs {
+            fcn: Paging::Normal as u16,
+            um: true,
+            ..c.ktcs
+        },
         wait: Wait::Nothing,
-        fetch,
+        fetch: fetched::clear_fetch(),
+        ..c
     }
 }
 
 // Interrupt, trap and INIT ---------------------------------------------------------------------------------------------
 
 // "Interrupt: IU takes UM; from user mode UM clears, fetch memory clears, and the same wait begins."
-#[tactic(auto, unfolding(rules::specs::Sequences::interrupted, rules::specs::Unit::with_ktcs, rules::specs::Choice::pick))]
+#[tactic(auto, unfolding(rules::specs::Sequences::interrupted, rules::specs::Unit::with_ktcs, rules::specs::Status::with_modes, rules::specs::Choice::pick))]
 pub fn interrupted(c: Core) -> Core
     ensures { result ≡ interrupted c }
 {
     if c.ktcs.um {
-        let kept = c.kept;
-        violations::service_awaited(c.ktcs, kept)
+        violations::service_awaited(c)
     } else {
-        let ktcs = status::with_modes(c.ktcs, c.ktcs.fcn, false, false);
-        let mut d = c;
-        d.ktcs = ktcs;
-        d
+        Core {
+            ktcs: Ktcs {
+                iu: false,
+                ..c.ktcs
+            },
+            ..c
+        }
     }
 }
 
@@ -103,15 +88,7 @@ pub fn interrupted(c: Core) -> Core
 fn is_trap(k: Kind) -> bool
     ensures { result ≡ is_trap k }
 {
-    match k {
-        Kind::Jsr => false,
-        Kind::Rts => false,
-        Kind::Rti => false,
-        Kind::Trap => true,
-        Kind::Privileged => false,
-        Kind::EntryPoint => false,
-        Kind::Other => false,
-    }
+    matches!(k, Kind::Trap)
 }
 
 // Whether the last two fetched words are both TRAP.
@@ -119,7 +96,7 @@ fn is_trap(k: Kind) -> bool
 pub fn trap_twice(f: Fetch) -> bool
     ensures { result ≡ trap_twice f }
 {
-    is_trap(kinds::kind_of(f.newer)) & is_trap(kinds::kind_of(f.older))
+    is_trap(kinds::kind_of(f.newer)) && is_trap(kinds::kind_of(f.older))
 }
 
 // "Trap from user mode: the same, except vector 34o when the last two fetched words are not both TRAP"
@@ -127,7 +104,7 @@ pub fn trap_twice(f: Fetch) -> bool
 pub fn trap_taken(c: Core, v: u64) -> bool
     ensures { result ≡ trap_taken c v }
 {
-    c.ktcs.um & !((v == 0o34) & !trap_twice(c.fetch))
+    c.ktcs.um && (v != 0o34 || trap_twice(c.fetch))
 }
 
 // "that changes nothing. Trap from exec changes nothing."
@@ -136,35 +113,26 @@ pub fn trapped(c: Core, v: u64) -> Core
     ensures { result ≡ trapped c v }
 {
     if trap_taken(c, v) {
-        let kept = c.kept;
-        violations::service_awaited(c.ktcs, kept)
+        violations::service_awaited(c)
     } else {
         c
     }
 }
 
-// A trap's shape: its vector is in the list.
-#[tactic(auto, unfolding(rules::specs::Sequences::vector_listed, rules::specs::Registers::among, rules::specs::Registers::is_found))]
+// A trap's shape: its vector is in the list, by the search that registers are found by too.
+#[tactic(auto, unfolding(rules::specs::Sequences::vector_listed, rules::specs::Registers::among))]
 pub fn vector_listed(v: u64) -> bool
     ensures { result ≡ vector_listed v }
 {
-    match registers::found(&rules::VECTORS, v as usize) {
-        Found::At(_) => true,
-        Found::Missing => false,
-    }
+    registers::found(&VECTORS, v as usize).is_some()
 }
 
 // Whether an interrupt or a trap may come: not while the unit waits, and not in FCN 3.
 #[tactic(auto, unfolding(rules::specs::Sequences::idle))]
-pub fn idle(w: Wait, fcn: u16) -> bool
-    ensures { result ≡ idle w fcn }
+pub fn idle(c: Core) -> bool
+    ensures { result ≡ idle c.wait c.ktcs.fcn }
 {
-    match w {
-        Wait::Nothing => fcn != 3,
-        Wait::StatusDue => false,
-        Wait::ProgramCounterDue => false,
-        Wait::SecondReadDue => false,
-    }
+    matches!(c.wait, Wait::Nothing) && c.ktcs.fcn != Paging::StartUser as u16
 }
 
 // "INIT clears KTCS, the wait, the fetch memory ..; other registers stay (H)."
@@ -172,13 +140,10 @@ pub fn idle(w: Wait, fcn: u16) -> bool
 pub fn init_core(c: Core) -> Core
     ensures { result ≡ init_core c }
 {
-    let ktcs = status::clear_ktcs();
-    let kept = c.kept;
-    let fetch = fetched::clear_fetch();
     Core {
-        ktcs,
-        kept,
+        ktcs: status::clear_ktcs(),
         wait: Wait::Nothing,
-        fetch,
+        fetch: fetched::clear_fetch(),
+        ..c
     }
 }

@@ -3,7 +3,7 @@
 
 ghost use Rattle.std.specs.Prelude.{◌≡◌, ◌+◌, ◌%◌, ◌≤◌, ◌<◌};
 ghost use Rattle.rules.specs.Unit.{clear_ktcs};
-ghost use Rattle.rules.specs.Status.{bit_of, packed, unpacked, with_modes, with_states, with_flags, flags_clear, fcn_stored, ktcs_stored};
+ghost use Rattle.rules.specs.Status.{bit_of, bit_in, packed, unpacked, with_modes, with_states, with_flags, flags_clear, fcn_stored, ktcs_stored};
 
 use rules::{Ktcs, Part};
 
@@ -12,7 +12,15 @@ use rules::{Ktcs, Part};
 pub fn bit(b: bool, v: u16) -> u16
     ensures { (result ≡ bit_of b v) × (result ≤ v) }
 {
-    if b { v } else { 0 }
+    u16::from(b) * v
+}
+
+// Whether the bit with this value is set in a word; one with the value 0 never is.
+#[tactic(auto, unfolding(rules::specs::Status::bit_in))]
+pub fn bit_in(w: u16, v: u16) -> bool
+    ensures { result ≡ bit_in w v }
+{
+    w.checked_div(v).is_some_and(|shifted| shifted % 2 == 1)
 }
 
 // FCN, SS, DS, UM and IU.
@@ -22,7 +30,8 @@ fn low_bits(s: Ktcs) -> u16
     s.fcn % 4 + bit(s.ss, 0o4) + bit(s.ds, 0o10) + bit(s.um, 0o20) + bit(s.iu, 0o40)
 }
 
-// "KTCS (H): FCN bits 1-0, SS 2, DS 3, UM 4, IU 5, RV 11, PV 12, WV 13, AV 14, IV 15; others read 0."
+// "KTCS (H): FCN bits 1-0, SS 2, DS 3, UM 4, IU 5, RV 11, PV 12, WV 13, AV 14, IV 15; others read 0." There and back by functions: `Ktcs`
+// stands in `rules`, which holds no code, and so no `From`.
 #[tactic(auto, unfolding(rules::specs::Status::packed))]
 pub fn packed(s: Ktcs) -> u16
     ensures { result ≡ packed s }
@@ -35,21 +44,21 @@ pub fn packed(s: Ktcs) -> u16
         + bit(s.iv, 0o100000)
 }
 
-#[tactic(auto, unfolding(rules::specs::Status::unpacked, rules::specs::Status::bit_in))]
+#[tactic(auto, unfolding(rules::specs::Status::unpacked))]
 pub fn unpacked(w: u16) -> Ktcs
     ensures { result ≡ unpacked w }
 {
     Ktcs {
         fcn: w % 4,
-        ss: w / 0o4 % 2 == 1,
-        ds: w / 0o10 % 2 == 1,
-        um: w / 0o20 % 2 == 1,
-        iu: w / 0o40 % 2 == 1,
-        rv: w / 0o4000 % 2 == 1,
-        pv: w / 0o10000 % 2 == 1,
-        wv: w / 0o20000 % 2 == 1,
-        av: w / 0o40000 % 2 == 1,
-        iv: w / 0o100000 % 2 == 1,
+        ss: bit_in(w, 0o4),
+        ds: bit_in(w, 0o10),
+        um: bit_in(w, 0o20),
+        iu: bit_in(w, 0o40),
+        rv: bit_in(w, 0o4000),
+        pv: bit_in(w, 0o10000),
+        wv: bit_in(w, 0o20000),
+        av: bit_in(w, 0o40000),
+        iv: bit_in(w, 0o100000),
     }
 }
 
@@ -58,7 +67,7 @@ pub fn unpacked(w: u16) -> Ktcs
 pub fn flags_clear(s: Ktcs) -> bool
     ensures { result ≡ flags_clear s }
 {
-    !(s.rv | s.pv | s.wv | s.av | s.iv)
+    !(s.rv || s.pv || s.wv || s.av || s.iv)
 }
 
 // FCN, UM and IU changed, and nothing else.
@@ -66,11 +75,7 @@ pub fn flags_clear(s: Ktcs) -> bool
 pub fn with_modes(s: Ktcs, fcn: u16, um: bool, iu: bool) -> Ktcs
     ensures { result ≡ with_modes s fcn um iu }
 {
-    let mut t = s;
-    t.fcn = fcn;
-    t.um = um;
-    t.iu = iu;
-    t
+    Ktcs { fcn, um, iu, ..s }
 }
 
 // SS and DS changed.
@@ -78,10 +83,7 @@ pub fn with_modes(s: Ktcs, fcn: u16, um: bool, iu: bool) -> Ktcs
 pub fn with_states(s: Ktcs, ss: bool, ds: bool) -> Ktcs
     ensures { result ≡ with_states s ss ds }
 {
-    let mut t = s;
-    t.ss = ss;
-    t.ds = ds;
-    t
+    Ktcs { ss, ds, ..s }
 }
 
 // The five error flags changed.
@@ -89,13 +91,14 @@ pub fn with_states(s: Ktcs, ss: bool, ds: bool) -> Ktcs
 pub fn with_flags(s: Ktcs, rv: bool, pv: bool, wv: bool, av: bool, iv: bool) -> Ktcs
     ensures { result ≡ with_flags s rv pv wv av iv }
 {
-    let mut t = s;
-    t.rv = rv;
-    t.pv = pv;
-    t.wv = wv;
-    t.av = av;
-    t.iv = iv;
-    t
+    Ktcs {
+        rv,
+        pv,
+        wv,
+        av,
+        iv,
+        ..s
+    }
 }
 
 // "a store that covers bits 1-0 sets FCN"
@@ -104,8 +107,7 @@ fn fcn_stored(fcn: u16, p: Part, v: u16) -> u16
     ensures { result ≡ fcn_stored fcn p v }
 {
     match p {
-        Part::Whole => v % 4,
-        Part::Low => v % 4,
+        Part::Whole | Part::Low => v % 4,
         Part::High => fcn,
     }
 }
@@ -120,7 +122,7 @@ pub fn ktcs_stored(s: Ktcs, p: Part, v: u16) -> Ktcs
     with_flags(kept, false, false, false, false, false)
 }
 
-// KTCS all zero, as INIT leaves it.
+// KTCS all zero, as INIT leaves it, field by field as the definition has it.
 #[tactic(auto, unfolding(rules::specs::Unit::clear_ktcs))]
 pub fn clear_ktcs() -> Ktcs
     ensures { result ≡ clear_ktcs }

@@ -4,7 +4,7 @@
 ghost use Rattle.std.specs.Prelude.{◌≡◌};
 ghost use Rattle.rules.specs.Steps.{odd_word, keys_of, judged, watches, public_page, guarded, forbidden_by, forbidden};
 
-use rules::{Access, Core, Entry, Fault, Fetch, Kind, Ruling};
+use rules::{Access, Core, Entry, Fault, Fetch, Kind, Operation, Width};
 
 // Steps 3 and 5 --------------------------------------------------------------------------------------------------------
 
@@ -13,36 +13,36 @@ use rules::{Access, Core, Entry, Fault, Fetch, Kind, Ruling};
 pub fn odd_word(width: u64, a: u16) -> bool
     ensures { result ≡ odd_word width a }
 {
-    (width == 0) & (a % 2 == 1)
+    width == Width::Word as u64 && a % 2 == 1
 }
 
 // Steps 6 to 9 ---------------------------------------------------------------------------------------------------------
 
 // "7. Residency (5). 8. Write key for operations 1-3 (6). 9. Privacy (7)."; `watched` says that privacy is asked.
-#[tactic(auto, unfolding(rules::specs::Steps::keys_of, rules::specs::Maps::low9, rules::specs::Choice::pick))]
-pub fn keys_of(op: u64, watched: bool, w: u16) -> Ruling
+#[tactic(auto, unfolding(rules::specs::Steps::keys_of, rules::specs::Choice::pick))]
+pub fn keys_of(op: u64, watched: bool, w: u16) -> Result<u16, Fault>
     ensures { result ≡ keys_of op watched w }
 {
     if !pages::resident_bit(w) {
-        return Ruling::Refused(Fault::NotResident);
+        return Err(Fault::NotResident);
     }
-    if (op != 0) & !pages::write_bit(w) {
-        return Ruling::Refused(Fault::NotWritable);
+    if op != Operation::Dati as u64 && !pages::write_bit(w) {
+        return Err(Fault::NotWritable);
     }
-    if watched & !pages::public_bit(w) {
-        return Ruling::Refused(Fault::NotPublic);
+    if watched && !pages::public_bit(w) {
+        return Err(Fault::NotPublic);
     }
-    Ruling::Granted(w % 512)
+    Ok(pages::low9(w))
 }
 
 // "6. Walk (9).", where "10 takes 9's place" (T-01), and the keys. "Exec page 0: .. every key passes."
 #[tactic(auto, unfolding(rules::specs::Steps::judged))]
-pub fn judged(op: u64, watched: bool, e: Entry) -> Ruling
+pub fn judged(op: u64, watched: bool, e: Entry) -> Result<u16, Fault>
     ensures { result ≡ judged op watched e }
 {
     match e {
-        Entry::OffMap => Ruling::Refused(Fault::NoMapWord),
-        Entry::ExecZero(page) => Ruling::Granted(page),
+        Entry::OffMap => Err(Fault::NoMapWord),
+        Entry::ExecZero(page) => Ok(page),
         Entry::Mapped(w) => keys_of(op, watched, w),
     }
 }
@@ -52,7 +52,7 @@ pub fn judged(op: u64, watched: bool, e: Entry) -> Ruling
 pub fn watches(f: Fetch, q: Access) -> bool
     ensures { result ≡ watches f q }
 {
-    !fetched::is_fetch(q) & f.public
+    !fetched::is_fetch(q) && f.public
 }
 
 // Step 11 --------------------------------------------------------------------------------------------------------------
@@ -62,11 +62,7 @@ pub fn watches(f: Fetch, q: Access) -> bool
 pub fn public_page(e: Entry) -> bool
     ensures { result ≡ public_page e }
 {
-    match e {
-        Entry::OffMap => false,
-        Entry::ExecZero(_) => false,
-        Entry::Mapped(w) => pages::public_bit(w),
-    }
+    matches!(e, Entry::Mapped(w) if pages::public_bit(w))
 }
 
 // A page that is judged as private: exec page 0 "is never judged for privacy or entry point".
@@ -74,11 +70,7 @@ pub fn public_page(e: Entry) -> bool
 pub fn guarded(e: Entry) -> bool
     ensures { result ≡ guarded e }
 {
-    match e {
-        Entry::OffMap => false,
-        Entry::ExecZero(_) => false,
-        Entry::Mapped(w) => !pages::public_bit(w),
-    }
+    matches!(e, Entry::Mapped(w) if !pages::public_bit(w))
 }
 
 // A user's privileged word, and any but the entry point where the fetch goes from public to private.
@@ -87,13 +79,9 @@ pub fn forbidden_by(k: Kind, user: bool, entering: bool) -> bool
     ensures { result ≡ forbidden_by k user entering }
 {
     match k {
-        Kind::Jsr => entering,
-        Kind::Rts => entering,
-        Kind::Rti => entering,
-        Kind::Trap => entering,
-        Kind::Privileged => user | entering,
+        Kind::Privileged => user || entering,
         Kind::EntryPoint => false,
-        Kind::Other => entering,
+        _ => entering,
     }
 }
 
@@ -102,6 +90,6 @@ pub fn forbidden_by(k: Kind, user: bool, entering: bool) -> bool
 pub fn forbidden(c: Core, e: Entry, w: u16) -> bool
     ensures { result ≡ forbidden c e w }
 {
-    let entering = c.fetch.public & guarded(e);
+    let entering = c.fetch.public && guarded(e);
     forbidden_by(kinds::kind_of(w), c.ktcs.um, entering)
 }

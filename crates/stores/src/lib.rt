@@ -12,22 +12,18 @@ pub fn core_stored(c: Core, p: Part, v: u16, g: Operating) -> Core
     ensures { result ≡ core_stored c p v g }
 {
     match g {
-        Operating::Ktcs => {
-            let stored = status::ktcs_stored(c.ktcs, p, v);
-            let mut d = c;
-            d.ktcs = stored;
-            d
-        }
+        Operating::Ktcs => Core {
+            ktcs: status::ktcs_stored(c.ktcs, p, v),
+            ..c
+        },
         Operating::Kept(i) => {
-            let kept = c.kept;
-            let word = registers::merged(p, registers::kept_word(kept, i), v);
-            let stored = registers::kept_stored(kept, i, word);
-            let mut d = c;
-            d.kept = stored;
-            d
+            let word = registers::merged(p, registers::kept_word(&c.kept, i), v);
+            Core {
+                kept: registers::stored(c.kept, i, word),
+                ..c
+            }
         }
-        Operating::Ktum => c,
-        Operating::Ktem => c,
+        Operating::Ktum | Operating::Ktem => c,
     }
 }
 
@@ -37,17 +33,14 @@ pub fn operating_effect(r: Maps, p: Part, v: u16, g: Operating) -> Effect
     ensures { result ≡ operating_effect r p v g }
 {
     match g {
-        Operating::Ktcs => Effect::Keep,
-        Operating::Kept(_) => Effect::Keep,
+        Operating::Ktcs | Operating::Kept(_) => Effect::Keep,
         Operating::Ktum => {
             let ktum = registers::merged(p, r.ktum, v);
-            let user = Maps { ktum, ktem: r.ktem };
-            Effect::Reload(user)
+            Effect::Reload(Maps { ktum, ..r })
         }
         Operating::Ktem => {
             let ktem = registers::merged(p, r.ktem, v);
-            let exec = Maps { ktum: r.ktum, ktem };
-            Effect::Reload(exec)
+            Effect::Reload(Maps { ktem, ..r })
         }
     }
 }
@@ -70,7 +63,6 @@ pub fn memory_effect(p: Part, at: usize, v: u16) -> Effect
 {
     match p {
         Part::Whole => Effect::StoreWord(at, v),
-        Part::Low => Effect::StoreByte(at, v),
-        Part::High => Effect::StoreByte(at, v),
+        Part::Low | Part::High => Effect::StoreByte(at, v),
     }
 }

@@ -1,29 +1,22 @@
 -- What the bench program counts, and what a call prints (01, the bench program).
-use Rattle.std.specs.Prelude.{◌≡◌, ℕ, ◌+◌, ◌%◌, ◌^◌, ◌≤◌, List, drop}
+use Rattle.std.specs.Prelude.{ℕ, ◌+◌, ◌%◌, ◌^◌, List, Option, Some, None}
 use Rattle.rules.specs.declared.Ktcs.{Ktcs}
 use Rattle.rules.specs.declared.Unit.{Unit}
-use Rattle.rules.specs.declared.Physical.{Physical}
 use Rattle.rules.specs.declared.Returned.{Returned}
 use Rattle.rules.specs.declared.Reply.{Reply}
 use Rattle.rules.specs.Status.{packed}
 use Rattle.rules.specs.Answers.{shown}
-use Rattle.rowtext.specs.declared.Text.{Text}
-use Rattle.rowtext.specs.declared.Printed.{Printed}
 use Rattle.rowtext.specs.Row.{row_of}
 use Rattle.tally.specs.declared.Bench.{Bench}
-
--- the text's bytes are s
-abbrev pub Holds : Text → List ℕ → Type 0
-Holds t s = (drop t.from t.bytes ≡ s) × (t.from ≤ 64)
 
 -- one more, by 64 bits
 unfoldable pub next : ℕ → ℕ
 next n = (n + 1) % 2 ^ 64
 
 -- a physical address as a row prints it: it has 18 bits
-unfoldable pub printed_as : Physical → Printed
-printed_as (Physical.At at) = Printed.At (at % 0o1000000)
-printed_as Physical.Nowhere = Printed.Dash
+unfoldable pub printed_as : Option ℕ → Option ℕ
+printed_as (Some at) = Some (at % 0o1000000)
+printed_as None = None
 
 unfoldable pub shown_row : ℕ → Returned → Ktcs → List ℕ
 shown_row call s k = row_of call s.number s.datum (printed_as s.physical) (packed k)

@@ -2,10 +2,10 @@
 #![tactic(auto)]
 
 ghost use Rattle.std.specs.Prelude.{◌≡◌};
-ghost use Rattle.tally.specs.Tally.{Holds, next, printed_as, call_row, line_counted, call_counted};
+ghost use Rattle.tally.specs.Tally.{next, printed_as, call_row, line_counted, call_counted};
 
 use rowtext::Text;
-use rules::{Physical, Reply, Unit};
+use rules::{Reply, Returned, Unit};
 
 // The unit, and how many calls and lines there were so far.
 #[derive(Clone, Copy)]
@@ -15,77 +15,54 @@ pub struct Bench {
     pub lines: u64,
 }
 
-// What a line leaves, and what it prints.
-#[derive(Clone, Copy)]
-pub struct Told {
-    pub bench: Bench,
-    pub text: Text,
-}
-
 // One more call or line.
 #[tactic(auto, unfolding(crate::specs::Tally::next))]
 pub fn next(n: u64) -> u64
     ensures { result ≡ next n }
 {
-    std::num::wrapping_add_u64(n, 1)
+    n.wrapping_add(1)
 }
 
 // The cast loses nothing, since 18 bits are left.
 #[tactic(auto, unfolding(crate::specs::Tally::printed_as))]
-fn printed_as(p: Physical) -> rowtext::Printed
+fn printed_as(p: Option<usize>) -> Option<u32>
     ensures { result ≡ printed_as p }
 {
-    match p {
-        Physical::At(at) => rowtext::Printed::At((at % 0o1000000) as u32),
-        Physical::Nowhere => rowtext::Printed::Dash,
-    }
+    p.map(|at| (at % 0o1000000) as u32)
 }
 
 // A call's row.
 #[tactic(auto, unfolding(crate::specs::Tally::call_row, crate::specs::Tally::shown_row))]
-fn call_row(call: u64, reply: Reply) -> Text
-    ensures { Holds result (call_row call reply) }
+fn call_row(call: u64, reply: &Reply) -> Text
+    ensures { result ≡ call_row call reply.now }
 {
-    let answer = reply.answer;
-    let ktcs = reply.unit.core.ktcs;
-    let seen = answers::shown(answer);
-    let place = seen.physical;
-    rowtext::row(
-        call,
-        seen.number,
-        seen.datum,
-        printed_as(place),
-        status::packed(ktcs),
-    )
+    let Returned {
+        number,
+        datum,
+        physical,
+    } = answers::shown(reply.answer);
+    let ktcs = status::packed(reply.unit.core.ktcs);
+    rowtext::row(call, number, datum, printed_as(physical), ktcs)
 }
 
-// "call numbers count A, I, T and X, refused ones too"
-#[tactic(auto, unfolding(crate::specs::Tally::call_counted))]
-pub fn after_call(b: Bench, reply: Reply) -> Told
-    ensures bench { result.bench ≡ call_counted b reply.unit }
-    ensures text { Holds result.text (call_row (next b.calls) reply) }
-{
-    let unit = reply.unit;
-    let calls = next(b.calls);
-    let text = call_row(calls, reply);
-    let bench = Bench {
-        unit,
-        calls,
-        lines: next(b.lines),
-    };
-    Told { bench, text }
-}
+impl Bench {
+    // A line that is no call is counted as a line alone.
+    #[tactic(auto, unfolding(crate::specs::Tally::line_counted))]
+    pub fn count_line(&mut self)
+        ensures { self.new ≡ line_counted self.old }
+    {
+        self.lines = next(self.lines);
+    }
 
-// A line that is no call.
-#[tactic(auto, unfolding(crate::specs::Tally::line_counted))]
-pub fn after_line(b: Bench, text: Text) -> Told
-    ensures { (result.bench ≡ line_counted b) × (result.text ≡ text) }
-{
-    let unit = b.unit;
-    let bench = Bench {
-        unit,
-        calls: b.calls,
-        lines: next(b.lines),
-    };
-    Told { bench, text }
+    // "call numbers count A, I, T and X, refused ones too"
+    #[tactic(auto, unfolding(crate::specs::Tally::call_counted, crate::specs::Tally::line_counted))]
+    pub fn count_call(&mut self, reply: Reply) -> Text
+        ensures bench { self.new ≡ call_counted self.old reply.unit }
+        ensures text { result ≡ call_row (next self.old.calls) reply }
+    {
+        self.count_line();
+        self.calls = next(self.calls);
+        self.unit = reply.unit;
+        call_row(self.calls, &reply)
+    }
 }

@@ -1,26 +1,21 @@
-// Reading at a target and storing there: what is done once all steps have passed.
+// An access under way: what lies at an address, reading at a target and storing there, and how it ends.
 #![tactic(auto)]
 
-ghost use Rattle.std.specs.Prelude.{◌≡◌};
-ghost use Rattle.rules.specs.Program.{run};
-ghost use Rattle.rules.specs.Order.{source_in, word_from, word_read, stored_in, stored_at, transferred};
+ghost use Rattle.std.specs.Prelude.{◌≡◌, length};
+ghost use Rattle.rules.specs.Registers.{place_of};
+ghost use Rattle.rules.specs.Order.{source_in, word_from, word_read, stored_at, transferred};
+ghost use Rattle.rules.specs.Fetched.{noted};
+ghost use Rattle.transfer.specs.Stage.{ran};
 
-use rules::{Answer, Cells, Core, Effect, Job, Maps, Outcome, Part, Ran, Register, Target};
-
-// A call that has ended, with the cells as its look-ups left them.
-pub fn ended(o: Outcome, k: Cells) -> Ran
-    ensures { result ≡ record { outcome = o; cells = k } }
-{
-    Ran {
-        outcome: o,
-        cells: k,
-    }
-}
+use rules::{
+    Access, Answer, Cells, Core, Effect, Job, Maps, Outcome, Part, Place, Ran, Register, Target,
+    Unit,
+};
 
 // What a read of a register gives: the cells answer for it, or the rest of the unit.
 #[tactic(auto, unfolding(rules::specs::Order::source_in, rules::specs::Order::word_from))]
-pub fn word_in(c: Core, maps: Maps, k: Cells, g: Register) -> u16
-    ensures { result ≡ word_from k (source_in c maps g) }
+pub fn word_in(c: Core, maps: Maps, k: &Cells, g: Register) -> u16
+    ensures { result ≡ word_from k.now (source_in c maps g) }
 {
     match g {
         Register::Operating(o) => registers::operating_word(c, maps, o),
@@ -28,73 +23,95 @@ pub fn word_in(c: Core, maps: Maps, k: Cells, g: Register) -> u16
     }
 }
 
-// "Reads give the whole word at the even address."
-#[tactic(auto, unfolding(rules::specs::Order::source_at, rules::specs::Order::word_from, rules::specs::Order::word_read))]
-pub fn word_read(m: &[u8], j: Job, k: Cells, at: usize, t: Target) -> u16
-    ensures { result ≡ word_read m.now j k at t }
-{
-    match t {
-        Target::Memory => memory::word_at(m, memory::even_of(at)),
-        Target::In(g) => word_in(j.core, j.maps, k, g),
-    }
-}
-
-// A store into a register.
-#[tactic(auto, unfolding(rules::specs::Order::stored_in, rules::specs::Order::outcome))]
-fn stored_in(j: Job, p: Part, at: usize, g: Register) -> Outcome
-    ensures { result ≡ stored_in j p at g }
-{
-    let c = j.core;
-    let v = j.q.datum;
-    match g {
-        Register::Operating(o) => {
-            let r = j.maps;
-            Outcome {
-                answer: Answer::Done(0, at),
-                core: stores::core_stored(c, p, v, o),
-                effect: stores::operating_effect(r, p, v, o),
-            }
-        }
-        Register::Associative(a) => Outcome {
-            answer: Answer::Done(0, at),
-            core: c,
-            effect: stores::associative_effect(p, v, a),
-        },
-    }
-}
-
-// "Then the store."
-#[tactic(auto, unfolding(rules::specs::Order::stored_at, rules::specs::Order::outcome))]
+// "Then the store.", into memory or into a register.
+#[tactic(auto, unfolding(rules::specs::Order::stored_at, rules::specs::Order::stored_in, rules::specs::Order::outcome))]
 fn stored_at(j: Job, p: Part, at: usize, t: Target) -> Outcome
     ensures { result ≡ stored_at j p at t }
 {
-    let c = j.core;
-    match t {
-        Target::Memory => Outcome {
-            answer: Answer::Done(0, at),
-            core: c,
-            effect: stores::memory_effect(p, at, j.q.datum),
-        },
-        Target::In(g) => stored_in(j, p, at, g),
+    let v = j.q.datum;
+    let (core, effect) = match t {
+        Target::Memory => (j.core, stores::memory_effect(p, at, v)),
+        Target::In(Register::Operating(g)) => (
+            stores::core_stored(j.core, p, v, g),
+            stores::operating_effect(j.maps, p, v, g),
+        ),
+        Target::In(Register::Associative(g)) => (j.core, stores::associative_effect(p, v, g)),
+    };
+    Outcome {
+        answer: Answer::Done(0, at),
+        core,
+        effect,
     }
 }
 
-// A read by operations 0 and 1, or a store by 2 and 3.
-#[tactic(auto, unfolding(rules::specs::Order::transferred, rules::specs::Order::outcome, rules::specs::Choice::pick, rules::specs::Program::run, rules::specs::Order::read_at, rules::specs::Order::read_from, rules::specs::Order::source_at, rules::specs::Order::word_read, rules::specs::Order::word_from))]
-pub fn transferred(m: &[u8], j: Job, at: usize, t: Target, k: Cells) -> Ran
-    ensures { result ≡ run m.now j.maps (transferred m.now j at t) k }
-{
-    if j.q.op < 2 {
-        let w = word_read(m, j, k, at, t);
-        let c = j.core;
-        let read = Outcome {
-            answer: Answer::Done(w, at),
-            core: c,
-            effect: Effect::Keep,
-        };
-        return ended(read, k);
+// An access under way, over memory as it is lent and the cells as its look-ups have left them so far.
+#[derive(Clone, Copy)]
+pub struct Stage<'a> {
+    pub memory: &'a [u8],
+    pub cells: &'a Cells,
+    pub job: Job,
+}
+
+impl<'a> Stage<'a> {
+    // An access at its step 4, which notes it in the core.
+    pub fn noted(memory: &'a [u8], u: &'a Unit, q: Access) -> Self
+        ensures memory { result.memory.now ≡ memory.now }
+        ensures cells { result.cells.now ≡ u.now.cells }
+        ensures job { result.job ≡ record { q = q; core = noted u.now.core q; maps = u.now.maps; size = u.now.cells.size } }
+    {
+        Stage {
+            memory,
+            cells: &u.cells,
+            job: Job {
+                q,
+                core: fetched::noted(u.core, q),
+                maps: u.maps,
+                size: u.cells.size,
+            },
+        }
     }
-    let part = registers::part_of(j.q.op, at);
-    let stored = stored_at(j, part, at, t);
-    ended(stored, k)
+
+    // The access ends so, with the cells as its look-ups left them.
+    pub fn ended(&self, outcome: Outcome) -> Ran
+        ensures { result ≡ record { outcome = outcome; cells = self.now.cells.now } }
+    {
+        Ran {
+            outcome,
+            cells: *self.cells,
+        }
+    }
+
+    // What lies at this physical address.
+    pub fn place(&self, at: usize) -> Place
+        ensures { result ≡ place_of self.now.job.size (length self.now.memory.now) at }
+    {
+        registers::place_of(self.job.size, self.memory.len(), at)
+    }
+
+    // "Reads give the whole word at the even address."
+    #[tactic(auto, unfolding(rules::specs::Order::source_at, rules::specs::Order::word_from, rules::specs::Order::word_read))]
+    pub fn word_read(&self, at: usize, t: Target) -> u16
+        ensures { result ≡ word_read self.now.memory.now self.now.job self.now.cells.now at t }
+    {
+        match t {
+            Target::Memory => memory::word_at(self.memory, memory::even_of(at)),
+            Target::In(g) => word_in(self.job.core, self.job.maps, self.cells, g),
+        }
+    }
+
+    // A read by operations 0 and 1, or a store by 2 and 3.
+    #[tactic(auto, unfolding(crate::specs::Stage::ran, rules::specs::Order::transferred, rules::specs::Order::outcome, rules::specs::Choice::pick, rules::specs::Program::run, rules::specs::Order::read_at, rules::specs::Order::read_from, rules::specs::Order::source_at, rules::specs::Order::word_read, rules::specs::Order::word_from))]
+    pub fn transferred(&self, at: usize, t: Target) -> Ran
+        ensures { result ≡ ran self.now (transferred self.now.memory.now self.now.job at t) }
+    {
+        if fetched::is_read(self.job.q) {
+            return self.ended(Outcome {
+                answer: Answer::Done(self.word_read(at, t), at),
+                core: self.job.core,
+                effect: Effect::Keep,
+            });
+        }
+        let part = registers::part_of(self.job.q.op, at);
+        self.ended(stored_at(self.job, part, at, t))
+    }
 }

@@ -1,64 +1,64 @@
 // What answers 4 to 10 do to the core: the flag, KTAD and KTDT, and the wait for SERVICE (01, "Sequences").
 #![tactic(auto)]
 
-ghost use Rattle.std.specs.Prelude.{◌≡◌, eqb};
-ghost use Rattle.rules.specs.Choice.{pick};
+ghost use Rattle.std.specs.Prelude.{◌≡◌};
 ghost use Rattle.rules.specs.Sequences.{service_awaited, flagged, start_ended, data_lines, fault_data, address_kept, lines_kept, violated, timed_out};
 
-use rules::{Access, Core, Fault, KEPT, Ktcs, Wait};
+use rules::{Access, Core, Fault, KEPT, Ktcs, Paging, Wait};
 
 // What a violation, an interrupt and a trap share: "IU takes UM; UM clears; .. fetch memory clears; the unit waits for two SERVICE DATOs."
-#[tactic(auto, unfolding(rules::specs::Sequences::service_awaited))]
-pub fn service_awaited(s: Ktcs, kept: [u16; KEPT]) -> Core
-    ensures { result ≡ service_awaited s kept }
+#[tactic(auto, unfolding(rules::specs::Sequences::service_awaited, rules::specs::Status::with_modes))]
+pub fn service_awaited(c: Core) -> Core
+    ensures { result ≡ service_awaited c.ktcs c.kept }
 {
-    let ktcs = status::with_modes(s, s.fcn, false, s.um);
-    let fetch = fetched::clear_fetch();
     Core {
-        ktcs,
-        kept,
+        ktcs: Ktcs {
+            um: false,
+            iu: c.ktcs.um,
+            ..c.ktcs
+        },
         wait: Wait::StatusDue,
-        fetch,
+        fetch: fetched::clear_fetch(),
+        ..c
     }
 }
 
 // "its flag is set (9 has none)", and 10 has none: "State changes are as for 9" (T-01).
-#[tactic(auto, unfolding(rules::specs::Sequences::flagged))]
+#[tactic(auto, unfolding(rules::specs::Sequences::flagged, rules::specs::Status::with_flags))]
 pub fn flagged(s: Ktcs, f: Fault) -> Ktcs
     ensures { result ≡ flagged s f }
 {
     match f {
-        Fault::OddAddress => status::with_flags(s, s.rv, s.pv, s.wv, true, s.iv),
-        Fault::NoMapWord => s,
-        Fault::NotResident => status::with_flags(s, true, s.pv, s.wv, s.av, s.iv),
-        Fault::NotWritable => status::with_flags(s, s.rv, s.pv, true, s.av, s.iv),
-        Fault::NotPublic => status::with_flags(s, s.rv, true, s.wv, s.av, s.iv),
-        Fault::NoTarget => s,
-        Fault::Forbidden(_, _) => status::with_flags(s, s.rv, s.pv, s.wv, s.av, true),
+        Fault::OddAddress => Ktcs { av: true, ..s },
+        Fault::NotResident => Ktcs { rv: true, ..s },
+        Fault::NotWritable => Ktcs { wv: true, ..s },
+        Fault::NotPublic => Ktcs { pv: true, ..s },
+        Fault::Forbidden(_, _) => Ktcs { iv: true, ..s },
+        Fault::NoMapWord | Fault::NoTarget => s,
     }
 }
 
-#[tactic(auto, unfolding(rules::specs::Choice::pick))]
-fn fcn_ended(fcn: u16) -> u16
-    ensures { result ≡ pick (eqb fcn 3) 2 fcn }
-{
-    if fcn == 3 { 2 } else { fcn }
-}
-
 // "FCN 3 becomes 2"
-#[tactic(auto, unfolding(rules::specs::Sequences::start_ended))]
+#[tactic(auto, unfolding(rules::specs::Sequences::start_ended, rules::specs::Status::with_modes, rules::specs::Choice::pick))]
 pub fn start_ended(s: Ktcs) -> Ktcs
     ensures { result ≡ start_ended s }
 {
-    status::with_modes(s, fcn_ended(s.fcn), s.um, s.iu)
+    if s.fcn == Paging::StartUser as u16 {
+        Ktcs {
+            fcn: Paging::Normal as u16,
+            ..s
+        }
+    } else {
+        s
+    }
 }
 
-// What the data lines carry: "the store's data .. else 0"; DATO and DATOB are operations 2 and 3.
+// What the data lines carry: "the store's data .. else 0".
 #[tactic(auto, unfolding(rules::specs::Sequences::data_lines, rules::specs::Choice::pick))]
 pub fn data_lines(q: Access) -> u16
     ensures { result ≡ data_lines q }
 {
-    if q.op < 2 { 0 } else { q.datum }
+    if fetched::is_read(q) { 0 } else { q.datum }
 }
 
 // "KTDT the store's data or, for 8, the fetched word, else 0"
@@ -66,15 +66,9 @@ pub fn data_lines(q: Access) -> u16
 pub fn fault_data(q: Access, f: Fault) -> u16
     ensures { result ≡ fault_data q f }
 {
-    let lines = data_lines(q);
     match f {
-        Fault::OddAddress => lines,
-        Fault::NoMapWord => lines,
-        Fault::NotResident => lines,
-        Fault::NotWritable => lines,
-        Fault::NotPublic => lines,
-        Fault::NoTarget => lines,
         Fault::Forbidden(w, _) => w,
+        _ => data_lines(q),
     }
 }
 
@@ -86,7 +80,7 @@ pub fn address_kept(kept: [u16; KEPT], inner: bool, a: u16) -> [u16; KEPT]
     if inner {
         kept
     } else {
-        registers::kept_stored(kept, registers::KTAD, a)
+        registers::stored(kept, registers::KTAD, a)
     }
 }
 
@@ -95,7 +89,7 @@ pub fn address_kept(kept: [u16; KEPT], inner: bool, a: u16) -> [u16; KEPT]
 pub fn lines_kept(kept: [u16; KEPT], inner: bool, a: u16, d: u16) -> [u16; KEPT]
     ensures { result ≡ lines_kept kept inner a d }
 {
-    registers::kept_stored(address_kept(kept, inner, a), registers::KTDT, d)
+    registers::stored(address_kept(kept, inner, a), registers::KTDT, d)
 }
 
 // "Any of answers 4-8, or a paged 9", of the core; and 10: "State changes are as for 9" (T-01).
@@ -103,9 +97,11 @@ pub fn lines_kept(kept: [u16; KEPT], inner: bool, a: u16, d: u16) -> [u16; KEPT]
 pub fn violated(c: Core, q: Access, inner: bool, f: Fault) -> Core
     ensures { result ≡ violated c q inner f }
 {
-    let kept = c.kept;
-    let lines = lines_kept(kept, inner, q.addr, fault_data(q, f));
-    service_awaited(flagged(start_ended(c.ktcs), f), lines)
+    service_awaited(Core {
+        ktcs: flagged(start_ended(c.ktcs), f),
+        kept: lines_kept(c.kept, inner, q.addr, fault_data(q, f)),
+        ..c
+    })
 }
 
 // An unpaged 9: "unpaged: step 4, KTAD, KTDT".
@@ -113,9 +109,8 @@ pub fn violated(c: Core, q: Access, inner: bool, f: Fault) -> Core
 pub fn timed_out(c: Core, q: Access) -> Core
     ensures { result ≡ timed_out c q }
 {
-    let kept = c.kept;
-    let lines = lines_kept(kept, false, q.addr, data_lines(q));
-    let mut d = c;
-    d.kept = lines;
-    d
+    Core {
+        kept: lines_kept(c.kept, false, q.addr, data_lines(q)),
+        ..c
+    }
 }

@@ -4,10 +4,10 @@ use mathlib.Core.Path.{◌≡◌, sym, ap, ◌∙◌}
 use mathlib.Core.List.{[], ◌∷◌}
 use native.Mathlib.Omega.{arith}
 use lib.ListN.{get_or}
+use Rattle.std.specs.Prelude.{Option, Some}
 use Rattle.rules.specs.declared.Unit.{Unit}
 use Rattle.rules.specs.declared.Access.{Access}
 use Rattle.rules.specs.declared.Call.{Call}
-use Rattle.rules.specs.declared.Physical.{Physical}
 use Rattle.rules.specs.Memory.{Memory}
 use Rattle.rules.specs.Answers.{shown}
 use Rattle.rules.specs.Calls.{After, call_of}
@@ -27,7 +27,7 @@ abbrev pub IsRight : Program → Memory → Unit → Call → Type 0
 IsRight p m u c = p m u c ≡ call_of m u c
 
 -- the physical address of an answer, by 01's table
-abbrev pub physical_of : After → Physical
+abbrev pub physical_of : After → Option ℕ
 physical_of a = (shown a.reply.answer).physical
 
 -- "all answers 1": wrong at INIT, which is always accepted
@@ -62,7 +62,7 @@ MemoryUnchangedWrong =
 -- gives is the virtual one.
 abbrev pub Echoes : Program → Memory → Unit → Call → Type 0
 Echoes p m u first =
-    (q : Access) (at : ℕ) → physical_of (p (p m u first).memory (p m u first).reply.unit (Call.Access q)) ≡ Physical.At at → at ≡ q.addr
+    (q : Access) (at : ℕ) → physical_of (p (p m u first).memory (p m u first).reply.unit (Call.Access q)) ≡ Some at → at ≡ q.addr
 
 -- it does both of two calls, one after the other, as the rules say
 pub record RightTwice (p : Program) (m : Memory) (u : Unit) (first second : Call) : Type 0 where

@@ -3,9 +3,9 @@ use Prim.Native.Nat.{ℕ}
 use mathlib.Core.Path.{◌≡◌, refl}
 use mathlib.Core.List.{List, [], ◌∷◌, ◌++◌, map}
 use lib.ListN.{replicate}
+use Rattle.std.specs.Prelude.{Option, Some, None}
 use Rattle.rules.specs.declared.Unit.{Unit}
 use Rattle.rules.specs.declared.Call.{Call}
-use Rattle.rules.specs.declared.Physical.{Physical}
 use Rattle.rules.specs.Memory.{Memory, store_word}
 use Rattle.rules.specs.Status.{packed}
 use Rattle.rules.specs.Answers.{shown}
@@ -20,7 +20,7 @@ use Rattle.worked.proofs.Starred.{number_at}
 pub record Row : Type 0 where
   pub number : ℕ
   pub datum : ℕ
-  pub physical : Physical
+  pub physical : Option ℕ
   pub ktcs : ℕ
 
 abbrev pub row_of : Seen → Row
@@ -34,10 +34,10 @@ row_of s =
 
 -- a row with a physical address, and one with none
 abbrev pub at : ℕ → ℕ → ℕ → ℕ → Row
-at n d p s = record { number = n; datum = d; physical = Physical.At p; ktcs = s }
+at n d p s = record { number = n; datum = d; physical = Some p; ktcs = s }
 
 abbrev pub off : ℕ → ℕ → ℕ → Row
-off n d s = record { number = n; datum = d; physical = Physical.Nowhere; ktcs = s }
+off n d s = record { number = n; datum = d; physical = None; ktcs = s }
 
 -- a line of the bench program's input that begins with A
 abbrev pub A : ℕ → ℕ → ℕ → ℕ → ℕ → Call

@@ -1,38 +1,39 @@
--- One cell more is compared, out of those that are left: its match replaces what was gathered, and no match leaves it.
-use Rattle.std.proofs.Common.{◌≡◌, ◌∙◌, sym, ap, ℕ, ◌+◌, ◌-◌, ◌≤◌, ◌<◌, List, length, get_or, take, arith, rules}
-use Rattle.rules.specs.declared.Cell.{Cell}
-use Rattle.rules.specs.declared.Found.{Found}
-use Rattle.rules.specs.Unit.{empty_cell}
-use Rattle.cells.proofs.Laws.{sought_from, first_here, first_later, first_nowhere}
+-- One cell more is compared, the last of those that are left: its match replaces what was gathered, and no match leaves it.
+use Rattle.std.proofs.Common.{◌≡◌, ◌∙◌, ap, ℕ, length, arith}
+use Rattle.std.specs.Prelude.{Some}
+use Rattle.rules.specs.Unit.{there}
+use Rattle.rules.specs.Maps.{cell_of}
+use Rattle.cells.proofs.Laws.{sought_from, none_yet, all_left, still_split, matched, unmatched}
 use Rattle.cells.proofs.cell_of.Goals as goal
-use Rattle.cells.proofs.cell_of.Goals.{then-tag-held, else-tag-held}
 
-module _ (l : List Cell) (n left tag : ℕ) (fits : n ≤ length l) (inside : left ≤ n) (more : 0 < left) where
-  matched : tag ≡ (get_or l (left - 1) empty_cell).tag → Found.At (left - 1) ≡ sought_from (take n l) (left - 1) tag
-  matched h = sym (first_here l n (left - 1) tag fits (omega arith) h)
+pub loop-i-init : goal.loop-i-init
+loop-i-init c =
+    let whole : c.into_iter-i-iterator.result.iter.iter.rest.now ≡ there c.args.k.now = cc in
+    record { gathered = none_yet _ _ c.args.tag whole; left = all_left _ _ c.args.tag whole; counted = cc }
 
-  unmatched : (tag ≡ (get_or l (left - 1) empty_cell).tag → ⊥) → sought_from (take n l) left tag ≡ sought_from (take n l) (left - 1) tag
-  unmatched h =
-      let next : left ≡ left - 1 + 1 = omega arith in
-      ap (λ (i : ℕ). sought_from (take n l) i tag) next ∙ sym (first_later l n (left - 1) tag fits (omega arith) h)
-
-pub loop-left-init : goal.loop-left-init
-loop-left-init c = record {
-  gathered = sym (first_nowhere _ _ _ _ (search rules) (omega arith));
-  inside = omega arith;
-  room = search rules;
-}
-
-pub loop-left-preserved : goal.loop-left-preserved
-unfolding empty_cell
-loop-left-preserved c =
-    let inv = c.loop-left.invariant in
+pub loop-i-preserved-then-tag-held : goal.loop-i-preserved-then-tag-held
+loop-i-preserved-then-tag-held c =
+    let step = c.in-Some.ensures.steps in
+    let inv = c.loop-i.invariant in
+    let here : c.in-Some.i ≡ length c.next.new.self.iter.iter.rest.now = omega arith in
     record {
-      gathered =
-          elim c.if-tag-held.branch [
-            | then-tag-held w ↦ w.gathered-is ∙ matched _ _ _ _ inv.room inv.inside (omega arith) w.if-tag-held.true
-            | else-tag-held w ↦ w.gathered-is ∙ inv.gathered ∙ unmatched _ _ _ _ inv.room inv.inside (omega arith) w.if-tag-held.false
-          ];
-      inside = omega arith;
-      room = inv.room;
+      gathered = ap Some here ∙ matched _ _ _ _ _ inv.left step.1.0 c.if-tag-held.true;
+      left = still_split _ _ _ _ c.args.tag inv.left step.1.0;
+      counted = step.0 ∙ inv.counted;
     }
+
+pub loop-i-preserved : goal.loop-i-preserved
+loop-i-preserved c =
+    let step = c.in-Some.ensures.steps in
+    let inv = c.loop-i.invariant in
+    record {
+      gathered = inv.gathered ∙ unmatched _ _ _ _ _ inv.left step.1.0 c.if-tag-held.false;
+      left = still_split _ _ _ _ c.args.tag inv.left step.1.0;
+      counted = step.0 ∙ inv.counted;
+    }
+
+pub returns : goal.returns
+unfolding cell_of
+returns c =
+    c.loop-i.invariant.gathered
+    ∙ ap (λ (i : ℕ). sought_from (there c.args.k.now) i c.args.tag) c.in-None.ensures.steps.1.0

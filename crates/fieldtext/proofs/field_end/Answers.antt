@@ -1,13 +1,17 @@
--- At a tab the first field ends, and else it has the byte at the place.
-use Rattle.std.proofs.Common.{arith, ap, length}
-use Rattle.fieldtext.proofs.Scan.{head_end, head_tab, head_more}
+-- The library's search finds the first tab.
+use Rattle.std.proofs.Common.{rules, ◌∙◌, arith, nat_eq}
+use borrow.Author.Tests.{tests}
+use Rattle.std.proofs.lemmas.Iterator.{YieldsList-from_slice}
+use Rattle.std.proofs.lemmas.Iterator.Search.{position_from_yields_List}
+use Rattle.fieldtext.proofs.Scan.{head_bound, head_found}
 use Rattle.fieldtext.proofs.field_end.Goals as goal
 
-pub returns-then-s-i-eq-TAB : goal.returns-then-s-i-eq-TAB
-returns-then-s-i-eq-TAB c = omega (arith, ap length (head_tab c.args.s.now c.loop-i.i c.loop-i-test.true c.if-s-i-eq-TAB.true))
-
-pub loop-i-preserved : goal.loop-i-preserved
-loop-i-preserved c = omega (arith, ap length (head_more c.args.s.now c.loop-i.i c.loop-i-test.true c.if-s-i-eq-TAB.false))
-
 pub returns : goal.returns
-returns c = omega (arith, ap length (head_end c.args.s.now c.loop-i.i c.loop-i-test.false))
+returns c =
+    let s = c.args.s.now in
+    let found =
+    position_from_yields_List (λ b. nat_eq b 9) _ _ c.position.result c.position.ensures.ran (YieldsList-from_slice s cc)
+    (λ x b q k. search (rules, tests))
+    in
+    let e = c.unwrap_or.ensures ∙ head_found s c.position.result found in
+    (e, omega (arith, e, head_bound s))

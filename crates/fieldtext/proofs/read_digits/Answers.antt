@@ -1,39 +1,32 @@
--- A byte that is no digit makes the whole none; one that is a digit says base times more, which fits nine digits of base ten.
-use Rattle.std.proofs.Common.{sym, ap, ◌∙◌, ◌≡◌, true, false, arith, slice_index_or}
-use Rattle.fieldtext.specs.declared.Figures.TheVariants.{Worth}
-use Rattle.fieldtext.specs.Number.{is_digit, all_digits, worth_from}
-use Rattle.fieldtext.proofs.Digits.{digit_range, digits_end, digits_more, worth-end, worth-more, at_most_tenfold, ten_more, digits_other, digits_worth}
+-- A byte that is no digit says nothing of the whole; one that is a digit says base times more, which nine digits of base ten fit.
+use Rattle.std.proofs.Common.{sym, ◌∙◌, Some, None, ◌+◌, arith}
+use Rattle.std.proofs.lemmas.Bool.Decides.{nat_tests}
+use Rattle.fieldtext.proofs.Digits.{told_end, told_more, digit_below, one_more, ten_small, digits_told}
 use Rattle.fieldtext.proofs.read_digits.Goals as goal
 
-pub returns-then-not-is_digit : goal.returns-then-not-is_digit
-returns-then-not-is_digit c =
+pub returns-in_err-value : goal.returns-in_err-value
+returns-in_err-value c =
     let f = c.args.bytes.now in
-    let i = c.loop-passed.passed in
-    let d : is_digit c.args.base (slice_index_or f i 0) ≡ false = cc in
-    let all : all_digits c.args.base f ≡ false =
-    c.loop-passed.invariant.2 ∙ digits_more c.args.base f i c.loop-passed-test.true ∙ simp d
-    in
-    sym (digits_other c.args.base c.args.most f all)
+    let n = told_more c.args.base f c.loop-b.value c.loop-b.b-index None c.loop-b-test.true c.in_err-value.ensures in
+    let all = digits_told c.args.base c.args.most f (omega arith) (omega arith) in
+    c.from_residual.ensures ∙ sym (all ∙ c.loop-b.invariant.1 ∙ n)
 
-pub loop-passed-preserved : goal.loop-passed-preserved
-loop-passed-preserved c =
-    let f = c.args.bytes.now in
-    let i = c.loop-passed.passed in
-    let inv = c.loop-passed.invariant in
-    let more = c.loop-passed-test.true in
-    let d : is_digit c.args.base (slice_index_or f i 0) ≡ true = cc in
-    let r = digit_range c.args.base _ d in (
-      omega arith,
-      omega (arith, r.0, r.1, c.requires, at_most_tenfold c.args.base c.loop-passed.value c.requires.0, ten_more i),
-      inv.2 ∙ digits_more c.args.base f i more ∙ simp d,
-      inv.3 ∙ worth-more c.args.base f _ i more,
+pub overflow_add-value : goal.overflow_add-value
+overflow_add-value c =
+    let d = digit_below c.args.base _ _ c.in_ok-value.ensures in
+    let m = one_more c.args.base c.loop-b.value c.in_ok-value.field-0 c.loop-b.b-index c.requires.0 c.loop-b.invariant.0 d in
+    omega (arith, ten_small (c.loop-b.b-index + 1))
+
+pub loop-b-preserved : goal.loop-b-preserved
+loop-b-preserved c =
+    let d = digit_below c.args.base _ _ c.in_ok-value.ensures in (
+      one_more c.args.base c.loop-b.value c.in_ok-value.field-0 c.loop-b.b-index c.requires.0 c.loop-b.invariant.0 d,
+      c.loop-b.invariant.1 ∙ told_more c.args.base c.args.bytes.now c.loop-b.value c.loop-b.b-index (Some c.in_ok-value.field-0) c.loop-b-test.true c.in_ok-value.ensures,
     )
 
 pub returns : goal.returns
 returns c =
     let f = c.args.bytes.now in
-    let v = c.loop-passed.value in
-    let i = c.loop-passed.passed in
-    let w : worth_from c.args.base 0 f ≡ v = c.loop-passed.invariant.3 ∙ worth-end c.args.base f v i c.loop-passed-test.false in
-    let all : all_digits c.args.base f ≡ true = c.loop-passed.invariant.2 ∙ digits_end c.args.base f i c.loop-passed-test.false in
-    ap Worth (sym w) ∙ sym (digits_worth c.args.base c.args.most f (omega arith) (omega arith) all)
+    let e = told_end c.args.base f c.loop-b.value c.loop-b.b-index (omega arith) in
+    let all = digits_told c.args.base c.args.most f (grind (arith, nat_tests)) (omega arith) in
+    sym (all ∙ c.loop-b.invariant.1 ∙ e)

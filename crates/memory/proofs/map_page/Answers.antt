@@ -6,6 +6,8 @@ use Rattle.rules.specs.Tools.{map_page}
 use Rattle.rules.specs.Maps.{low9}
 use Rattle.memory.proofs.map_page.Goals as goal
 
-pub returns-then-end-m : goal.returns-then-end-m
+pub returns-in-Some : goal.returns-in-Some
 unfolding map_page low9 pick
-returns-then-end-m c = simp (le-leb _ _ c.if-end-m.true, add-sub_cancel_left)
+returns-in-Some c =
+    let h = rw c.from.ensures at c.in-Some.ensures.lookup in
+    rw h.0.2 (simp (le-leb _ _ h.0.1, add-sub_cancel_left))

@@ -8,4 +8,4 @@ use Rattle.quick.proofs.fetch_ended.Goals as goal
 pub returns : goal.returns
 unfolding with_fetch
 returns c =
-    λ k. fetch_owed _ _ _ _ k _ _ _ _ (c.word_at-w.ensures ∙ ap (word_at _) c.even_of.ensures) (sym c.forbidden.ensures ∙ c.if-forbidden.false) (simp (c.after_fetch-g.ensures, c.public_bit.ensures)) c.ended.ensures
+    λ k. fetch_owed _ _ _ k _ _ _ _ _ (c.word_at-w.ensures ∙ ap (word_at _) c.even_of.ensures) (sym c.forbidden.ensures ∙ c.if-forbidden.false) (simp (c.after_fetch-fetch.ensures, c.public_bit.ensures)) c.ended.ensures

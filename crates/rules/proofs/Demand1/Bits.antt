@@ -4,7 +4,8 @@ use mathlib.Core.Bool.{Bool}
 use mathlib.Core.Path.{◌≡◌, refl}
 use native.Mathlib.Omega.{arith}
 use lib.Dec.{ltb}
-use Rattle.rules.specs.Types.{Maps, Cells, Unit, Access, Register, Target, Found, Walk, Entry, Looked, Fault, Ruling, Physical, Job, Ran}
+use Rattle.std.specs.Prelude.{Option, Some, None, Ok, Err}
+use Rattle.rules.specs.Types.{Maps, Cells, Unit, Access, Register, Target, Walked, Entry, Looked, Fault, Job, Ran}
 use Rattle.rules.specs.Memory.{Memory}
 use Rattle.rules.specs.Maps.{unpaged_at, physical_at, low9, exec_zero, exec_zero_entry, walk_of, entry_of, tag_of, cell_of, missed, sought_in, looked}
 use Rattle.rules.specs.Order.{outcome, stored_in, stored_at}
@@ -20,15 +21,15 @@ use Rattle.rules.proofs.Demand1.Why.{way}
 
 -- exec page 0's physical page, as a look-up gives it
 module _ (m : Memory) (r : Maps) (user : Bool) (p : ℕ) (k : Cells) (page : ℕ) where
-  missed-page : (w : Walk) → (missed k (tag_of user p) w).entry ≡ Entry.ExecZero page → page < 512
+  missed-page : (w : Option Walked) → (missed k (tag_of user p) w).entry ≡ Entry.ExecZero page → page < 512
   unfolding missed entry_of
-  missed-page (Walk.Finished w rs) e = absurd (let z : ◌≡◌ {A = ℕ} 0 1 = cc in omega arith)
-  missed-page Walk.Off e = absurd (let z : ◌≡◌ {A = ℕ} 0 1 = cc in omega arith)
+  missed-page (Some w) e = absurd (let z : ◌≡◌ {A = ℕ} 0 1 = cc in omega arith)
+  missed-page None e = absurd (let z : ◌≡◌ {A = ℕ} 0 1 = cc in omega arith)
 
-  sought_page : (x : Found) → (sought_in m r user p k x).entry ≡ Entry.ExecZero page → page < 512
+  sought_page : (x : Option ℕ) → (sought_in m r user p k x).entry ≡ Entry.ExecZero page → page < 512
   unfolding sought_in
-  sought_page (Found.At i) e = absurd (let z : ◌≡◌ {A = ℕ} 0 1 = cc in omega arith)
-  sought_page Found.Missing e = missed-page (walk_of m r user p) e
+  sought_page (Some i) e = absurd (let z : ◌≡◌ {A = ℕ} 0 1 = cc in omega arith)
+  sought_page None e = missed-page (walk_of m r user p) e
 
   looked-page : (looked m r user p k).entry ≡ Entry.ExecZero page → page < 512
   unfolding looked exec_zero_entry low9
@@ -37,7 +38,7 @@ module _ (m : Memory) (r : Maps) (user : Bool) (p : ℕ) (k : Cells) (page : ℕ
       (λ t e. let z : r.ktem % 512 ≡ page = cc in omega arith) (λ t. sought_page (cell_of k (tag_of user p)))
 
 granted_page :
-    {op : ℕ} {watched : Bool} {e : Entry} {page : ℕ} → Keys op watched e (Ruling.Granted page)
+    {op : ℕ} {watched : Bool} {e : Entry} {page : ℕ} → Keys op watched e (Ok page)
     → ((p : ℕ) → e ≡ Entry.ExecZero p → p < 512) → page < 512
 unfolding low9
 granted_page (granted r l h) z = omega arith
@@ -59,15 +60,15 @@ module _ {m : Memory} {u : Unit} {q : Access} where
   inner-bits {page} s a = paged_bits page a (granted_page s.keys (looked-page m u.maps _ _ _))
 
 -- a physical address that comes back is the one that was come to
-given : {to at : ℕ} → to < 0o1000000 → Physical.At to ≡ Physical.At at → at < 0o1000000
+given : {to at : ℕ} → to < 0o1000000 → Some to ≡ Some at → at < 0o1000000
 given {to} {at} b h = let z : to ≡ at = cc in omega arith
 
-none : {at : ℕ} → Physical.Nowhere ≡ Physical.At at → at < 0o1000000
+none : {at : ℕ} → None ≡ Some at → at < 0o1000000
 none h = absurd (let z : ◌≡◌ {A = ℕ} 0 1 = cc in omega arith)
 
 keys_bits :
-    {op : ℕ} {watched : Bool} {e : Entry} {f : Fault} {at : ℕ} → Keys op watched e (Ruling.Refused f)
-    → (fault_shown f).physical ≡ Physical.At at → at < 0o1000000
+    {op : ℕ} {watched : Bool} {e : Entry} {f : Fault} {at : ℕ} → Keys op watched e (Err f)
+    → (fault_shown f).physical ≡ Some at → at < 0o1000000
 unfolding fault_shown shown_as
 keys_bits off-map h = none h
 keys_bits (not_resident r) h = none h
@@ -76,7 +77,7 @@ keys_bits (not_public r l x) h = none h
 
 transfer_bits :
     {m : Memory} {j : Job} {k : Cells} {to at : ℕ} {t : Target} {d : Ran} → to < 0o1000000 → Transfer m j k to t d
-    → (shown d.outcome.answer).physical ≡ Physical.At at → at < 0o1000000
+    → (shown d.outcome.answer).physical ≡ Some at → at < 0o1000000
 unfolding outcome stored_in stored_at shown shown_as
 transfer_bits b (read e) h = given b h
 transfer_bits {t = Target.Memory} b (store e) h = given b h
@@ -86,7 +87,7 @@ transfer_bits {t = Target.In (Register.Associative g)} b (store e) h = given b h
 module _ {m : Memory} {u : Unit} {q : Access} where
   fault_bits :
       {f : Fault} {window : Bool} {tag : ℕ} {k : Cells} {at : ℕ} → AtFault m u q f window tag k
-      → (fault_shown f).physical ≡ Physical.At at → at < 0o1000000
+      → (fault_shown f).physical ≡ Some at → at < 0o1000000
   unfolding fault_shown shown_as
   fault_bits (odd s e) h = none h
   fault_bits (keys_refuse s x) h = keys_bits x h
@@ -99,7 +100,7 @@ module _ {m : Memory} {u : Unit} {q : Access} where
   fault_bits (window_on_window s e) h = none h
 
   way_bits :
-      {d : Ran} {at : ℕ} → q.addr < 0o200000 → Way m u q d → (shown d.outcome.answer).physical ≡ Physical.At at → at < 0o1000000
+      {d : Ran} {at : ℕ} → q.addr < 0o200000 → Way m u q d → (shown d.outcome.answer).physical ≡ Some at → at < 0o1000000
   unfolding shown fault_shown shown_as
   way_bits b (misshapen e) h = none h
   way_bits b (late s e) h = none h

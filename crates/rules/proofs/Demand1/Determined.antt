@@ -3,7 +3,8 @@ use Prim.Native.Nat.{ℕ}
 use mathlib.Core.Bool.{Bool, false}
 use mathlib.Core.Path.{◌≡◌, refl, ◌∙◌}
 use lib.ListN.{length}
-use Rattle.rules.specs.Types.{Cells, Unit, Access, Call, Target, Entry, Fault, Ruling, Job, Ran}
+use Rattle.std.specs.Prelude.{Result}
+use Rattle.rules.specs.Types.{Cells, Unit, Access, Call, Target, Entry, Fault, Job, Ran}
 use Rattle.rules.specs.Choice.{pick}
 use Rattle.rules.specs.Memory.{Memory}
 use Rattle.rules.specs.Registers.{place_of}
@@ -20,7 +21,7 @@ use Rattle.rules.proofs.Statements.Ways.{AtFault, odd, keys_refuse, nowhere, win
 use Rattle.rules.proofs.Statements.Ways.{Way, misshapen, late, stored_status, stored_program_counter, first_read, second_read, unpaged-odd, unpaged-nowhere, unpaged-window, unpaged-fetch, unpaged-transfer, violation, fetch, transfer, inner-transfer}
 use Rattle.rules.proofs.Statements.Ways.{access, interrupt_late, interrupt_taken, unlisted, trap_late, taken_trap, init, decided, Settled}
 
-pub keys_judged : {op : ℕ} {watched : Bool} {e : Entry} {g : Ruling} → Keys op watched e g → judged op watched e ≡ g
+pub keys_judged : {op : ℕ} {watched : Bool} {e : Entry} {g : Result ℕ Fault} → Keys op watched e g → judged op watched e ≡ g
 unfolding judged keys_of pick
 keys_judged off-map = refl
 keys_judged at_exec_zero = refl

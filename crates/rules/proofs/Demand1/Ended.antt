@@ -7,7 +7,8 @@ use native.Mathlib.Omega.{arith}
 use lib.Dec.{eqb, ltb, lit<}
 use lib.ListN.{length, length-set}
 use borrow.Author.Tests.{ltb-true, ltb-false, eqb-true, eqb-false}
-use Rattle.rules.specs.Types.{Core, Cells, Unit, Access, Call, Operating, Associative, Register, Target, Part, Fault, Answer, Physical, Returned, Effect, Ran}
+use Rattle.std.specs.Prelude.{None}
+use Rattle.rules.specs.Types.{Core, Cells, Unit, Access, Call, Operating, Associative, Register, Target, Part, Fault, Answer, Returned, Effect, Ran}
 use Rattle.rules.specs.Memory.{Memory, store_word, store_byte}
 use Rattle.rules.specs.Unit.{with_kept}
 use Rattle.rules.specs.Registers.{part_of}
@@ -126,7 +127,7 @@ answer-number (Answer.Fault f) = (fault_number f).1
 
 -- what comes back with no data and no physical address
 abbrev IsBare : Returned → Type 0
-IsBare r = r ≡ record { number = r.number; datum = 0; physical = Physical.Nowhere }
+IsBare r = r ≡ record { number = r.number; datum = 0; physical = None }
 
 fault_bare : (f : Fault) → (fault_shown f).number ≢ 8 → IsBare (fault_shown f)
 unfolding fault_shown shown_as

@@ -6,7 +6,8 @@ use mathlib.Core.List.{List, [], ◌∷◌, ◌++◌}
 use native.Mathlib.Omega.{arith}
 use lib.ListN.{length}
 use borrow.Author.Tests.{not-true}
-use Rattle.rules.specs.Types.{Cells, Unit, Access, Call, Register, Target, Place, Entry, Fault, Ruling, Answer, Job, Ran}
+use Rattle.std.specs.Prelude.{Result, Ok, Err}
+use Rattle.rules.specs.Types.{Cells, Unit, Access, Call, Register, Target, Place, Entry, Fault, Answer, Job, Ran}
 use Rattle.rules.specs.Choice.{pick}
 use Rattle.rules.specs.Memory.{Memory}
 use Rattle.rules.specs.Registers.{place_of}
@@ -48,12 +49,12 @@ fault_refuses (t ∷ ts) f =
     (λ r e. rw (r, fault_refuses ts f e))
 
 -- what the entry's tests come to, by what the keys say
-abbrev ruled : Ruling → Answer → Answer
-ruled (Ruling.Refused f) a = Answer.Fault f
-ruled (Ruling.Granted page) a = a
+abbrev ruled : Result ℕ Fault → Answer → Answer
+ruled (Err f) a = Answer.Fault f
+ruled (Ok page) a = a
 
 keys_first :
-    {op : ℕ} {watched : Bool} {e : Entry} {g : Ruling} → Keys op watched e g → (a : Answer) → first_of (entry_tests op watched e) a ≡ ruled g a
+    {op : ℕ} {watched : Bool} {e : Entry} {g : Result ℕ Fault} → Keys op watched e g → (a : Answer) → first_of (entry_tests op watched e) a ≡ ruled g a
 unfolding pick
 keys_first off-map a = refl
 keys_first at_exec_zero a = refl
@@ -63,11 +64,11 @@ keys_first (not_public r l h) a = rw (r, l, h)
 keys_first (granted r l h) a = rw (r, l, h)
 
 pub keys_pass :
-    {op : ℕ} {watched : Bool} {e : Entry} {page : ℕ} → Keys op watched e (Ruling.Granted page) → all_pass (entry_tests op watched e) ≡ true
+    {op : ℕ} {watched : Bool} {e : Entry} {page : ℕ} → Keys op watched e (Ok page) → all_pass (entry_tests op watched e) ≡ true
 keys_pass at_exec_zero = refl
 keys_pass (granted r l h) = rw (r, l, h)
 
-pub keys_page : {op : ℕ} {watched : Bool} {e : Entry} {page : ℕ} → Keys op watched e (Ruling.Granted page) → page_named e ≡ page
+pub keys_page : {op : ℕ} {watched : Bool} {e : Entry} {page : ℕ} → Keys op watched e (Ok page) → page_named e ≡ page
 keys_page at_exec_zero = refl
 keys_page (granted r l h) = refl
 

@@ -9,7 +9,8 @@ use lib.Dec.{eqb}
 use lib.ListN.{length, get_or, set, length-set, length-map, get_or-map}
 use lib.Seq.{get_or-set_other}
 use borrow.Author.Tests.{eqb-true, ne_eqb}
-use Rattle.rules.specs.Types.{Ktcs, Fetch, Core, Maps, Cell, Cells, Access, Kind, Found, Walk, Entry, Fault, Answer}
+use Rattle.std.specs.Prelude.{Option, Some, None}
+use Rattle.rules.specs.Types.{Ktcs, Fetch, Core, Maps, Cell, Cells, Access, Kind, Walked, Entry, Fault, Answer}
 use Rattle.rules.specs.Choice.{pick}
 use Rattle.rules.specs.Memory.{Memory}
 use Rattle.rules.specs.Unit.{there, empty_cell, cell_at, with_ktcs, with_kept, with_fetch}
@@ -206,7 +207,7 @@ module _ (user : Bool) (p : ℕ) (k : Cells) where
   cells_same : (e : Entry) → Step6Keeps user p k (record { entry = e; cells = k })
   cells_same e = record { size = refl; count = refl; others = λ i n. refl; hit = λ h. refl; ran_off = λ h. refl; at_exec_zero = λ h. refl }
 
-  module _ (walks : exec_zero user p ≡ false) (missing : cell_of k (tag_of user p) ≡ Found.Missing) where
+  module _ (walks : exec_zero user p ≡ false) (missing : cell_of k (tag_of user p) ≡ None) where
     filled_keeps : (tag w : ℕ) → Step6Keeps user p k (record { entry = Entry.Mapped w; cells = filled k tag w })
     unfolding filled
     filled_keeps tag w =
@@ -219,17 +220,17 @@ module _ (user : Bool) (p : ℕ) (k : Cells) where
           at_exec_zero = λ h. absurd (true≢false (cc));
         }
 
-    missed-keeps : (tag : ℕ) (w : Walk) → Step6Keeps user p k (missed k tag w)
+    missed-keeps : (tag : ℕ) (w : Option Walked) → Step6Keeps user p k (missed k tag w)
     unfolding missed entry_of filled_by
-    missed-keeps tag (Walk.Finished w rs) = filled_keeps tag w
-    missed-keeps tag Walk.Off = cells_same Entry.OffMap
+    missed-keeps tag (Some w) = filled_keeps tag w.word
+    missed-keeps tag None = cells_same Entry.OffMap
 
   sought_keeps :
-      (m : Memory) (r : Maps) (x : Found) → exec_zero user p ≡ false → cell_of k (tag_of user p) ≡ x
+      (m : Memory) (r : Maps) (x : Option ℕ) → exec_zero user p ≡ false → cell_of k (tag_of user p) ≡ x
       → Step6Keeps user p k (sought_in m r user p k x)
   unfolding sought_in
-  sought_keeps m r (Found.At i) z e = cells_same _
-  sought_keeps m r Found.Missing z e = missed-keeps z e (tag_of user p) (walk_of m r user p)
+  sought_keeps m r (Some i) z e = cells_same _
+  sought_keeps m r None z e = missed-keeps z e (tag_of user p) (walk_of m r user p)
 
 pub step6_leaves : Step6Leaves
 unfolding looked

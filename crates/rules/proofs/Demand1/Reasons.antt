@@ -5,7 +5,8 @@ use mathlib.Core.Path.{◌≡◌, refl, sym, ◌∙◌}
 use mathlib.Core.Logic.{◌≢◌}
 use native.Mathlib.Omega.{arith}
 use lib.ListN.{length, get_or}
-use Rattle.rules.specs.Types.{Maps, Cells, Unit, Access, Call, Found, Walk, Entry, Looked, Fault, Ruling, Answer, Ran}
+use Rattle.std.specs.Prelude.{Option, Some, None, Err}
+use Rattle.rules.specs.Types.{Maps, Cells, Unit, Access, Call, Walked, Entry, Looked, Fault, Answer, Ran}
 use Rattle.rules.specs.Choice.{pick}
 use Rattle.rules.specs.Memory.{Memory}
 use Rattle.rules.specs.Registers.{ktad, place_of}
@@ -35,23 +36,23 @@ module _ (m : Memory) (r : Maps) (user : Bool) (p : ℕ) (k : Cells) where
       picked (λ (l : Looked). l.entry ≡ Entry.OffMap → (exec_zero user p ≡ false) × RanOff m r k user p) (exec_zero user p) _ _
       (λ z e. absurd (let n : ◌≡◌ {A = ℕ} 0 1 = cc in omega arith)) (λ z e. (z, sought z (cell_of k (tag_of user p)) refl e))
     where
-      by_walk : exec_zero user p ≡ false → cell_of k (tag_of user p) ≡ Found.Missing → (w : Walk) → walk_of m r user p ≡ w
+      by_walk : exec_zero user p ≡ false → cell_of k (tag_of user p) ≡ None → (w : Option Walked) → walk_of m r user p ≡ w
           → entry_of w ≡ Entry.OffMap → RanOff m r k user p
-      by_walk z f (Walk.Finished w rs) h e = absurd (let n : ◌≡◌ {A = ℕ} 0 1 = cc in omega arith)
-      by_walk z f Walk.Off h e = record { no_cell = missing_has_none k (tag_of user p) f (tag-other user p z); walk = h }
+      by_walk z f (Some w) h e = absurd (let n : ◌≡◌ {A = ℕ} 0 1 = cc in omega arith)
+      by_walk z f None h e = record { no_cell = missing_has_none k (tag_of user p) f (tag-other user p z); walk = h }
 
-      sought : exec_zero user p ≡ false → (x : Found) → cell_of k (tag_of user p) ≡ x → (sought_in m r user p k x).entry ≡ Entry.OffMap
+      sought : exec_zero user p ≡ false → (x : Option ℕ) → cell_of k (tag_of user p) ≡ x → (sought_in m r user p k x).entry ≡ Entry.OffMap
           → RanOff m r k user p
-      sought z (Found.At i) f e = absurd (let n : ◌≡◌ {A = ℕ} 0 1 = cc in omega arith)
-      sought z Found.Missing f e = by_walk z f (walk_of m r user p) refl e
+      sought z (Some i) f e = absurd (let n : ◌≡◌ {A = ℕ} 0 1 = cc in omega arith)
+      sought z None f e = by_walk z f (walk_of m r user p) refl e
 
   so_off_map : exec_zero user p ≡ false → RanOff m r k user p → (looked m r user p k).entry ≡ Entry.OffMap
   unfolding looked sought_in missed entry_of pick
   so_off_map z o = rw z (sought (cell_of k (tag_of user p)) refl)
     where
-      sought : (x : Found) → cell_of k (tag_of user p) ≡ x → (sought_in m r user p k x).entry ≡ Entry.OffMap
-      sought (Found.At i) f = absurd (o.no_cell i (found_has_tag k i (tag_of user p) f))
-      sought Found.Missing f = rw o.walk
+      sought : (x : Option ℕ) → cell_of k (tag_of user p) ≡ x → (sought_in m r user p k x).entry ≡ Entry.OffMap
+      sought (Some i) f = absurd (o.no_cell i (found_has_tag k i (tag_of user p) f))
+      sought None f = rw o.walk
 
 -- What step 4 leaves: the mode and KTAD ----------------------------------------------------------------------------------
 
@@ -65,10 +66,10 @@ module _ (u : Unit) (q : Access) where
 
 -- From the number to the reason ------------------------------------------------------------------------------------------
 
-keys_off : {op : ℕ} {watched : Bool} {e : Entry} → Keys op watched e (Ruling.Refused Fault.NoMapWord) → e ≡ Entry.OffMap
+keys_off : {op : ℕ} {watched : Bool} {e : Entry} → Keys op watched e (Err Fault.NoMapWord) → e ≡ Entry.OffMap
 keys_off off-map = refl
 
-keys_there : {op : ℕ} {watched : Bool} {e : Entry} {f : Fault} → Keys op watched e (Ruling.Refused f) → (fault_shown f).number ≢ 9
+keys_there : {op : ℕ} {watched : Bool} {e : Entry} {f : Fault} → Keys op watched e (Err f) → (fault_shown f).number ≢ 9
 unfolding fault_shown shown_as
 keys_there off-map n = omega arith
 keys_there (not_resident r) n = omega arith

@@ -5,7 +5,8 @@ use mathlib.Core.Path.{◌≡◌, refl}
 use lib.Dec.{ltb}
 use lib.ListN.{length}
 use borrow.Author.Tests.{not-true, not-false}
-use Rattle.rules.specs.Types.{Cells, Unit, Access, Call, Target, Place, Entry, Due, Ruling, Job}
+use Rattle.std.specs.Prelude.{Result, Ok, Err}
+use Rattle.rules.specs.Types.{Cells, Unit, Access, Call, Target, Place, Entry, Due, Job, Fault}
 use Rattle.rules.specs.Memory.{Memory}
 use Rattle.rules.specs.Registers.{place_of}
 use Rattle.rules.specs.Maps.{unpaged, unpaged_at, resident_bit}
@@ -83,10 +84,10 @@ module _ (m : Memory) (u : Unit) where
     inner_target-ends Place.Nowhere e s = violation (inner-nowhere s e)
 
     inner_ruled-ends :
-        (g : Ruling) → Keys q.op false (inner m u q).entry g → InnerAsked m u q → Ends (inner m u q).cells (inner_ruled m (job u q) g)
+        (g : Result ℕ Fault) → Keys q.op false (inner m u q).entry g → InnerAsked m u q → Ends (inner m u q).cells (inner_ruled m (job u q) g)
     unfolding inner_ruled inner_fault faulted run outcome
-    inner_ruled-ends (Ruling.Refused f) h s = violation (inner_keys_refuse s h)
-    inner_ruled-ends (Ruling.Granted page) h s = inner_target-ends (place_of u.cells.size (length m) (inner_at u q page)) refl (record { steps = s; keys = h })
+    inner_ruled-ends (Err f) h s = violation (inner_keys_refuse s h)
+    inner_ruled-ends (Ok page) h s = inner_target-ends (place_of u.cells.size (length m) (inner_at u q page)) refl (record { steps = s; keys = h })
 
     windowed-ends : Windowed m u q → Ends (outer m u q).cells (windowed m (job u q))
     unfolding windowed inner_fault faulted run outcome
@@ -122,11 +123,11 @@ module _ (m : Memory) (u : Unit) where
     outer_target-ends Place.Nowhere e s = violation (nowhere s e)
 
     outer_ruled-ends :
-        (g : Ruling) → Keys q.op (watches (job u q).core.fetch q) (outer m u q).entry g → Asked m u q
+        (g : Result ℕ Fault) → Keys q.op (watches (job u q).core.fetch q) (outer m u q).entry g → Asked m u q
         → Ends (outer m u q).cells (outer_ruled m (job u q) (outer m u q).entry g)
     unfolding outer_ruled outer_fault faulted run outcome
-    outer_ruled-ends (Ruling.Refused f) h s = violation (keys_refuse s h)
-    outer_ruled-ends (Ruling.Granted page) h s = outer_target-ends (place_of u.cells.size (length m) (outer_at q page)) refl (record { steps = s; keys = h })
+    outer_ruled-ends (Err f) h s = violation (keys_refuse s h)
+    outer_ruled-ends (Ok page) h s = outer_target-ends (place_of u.cells.size (length m) (outer_at q page)) refl (record { steps = s; keys = h })
 
     paged_from-ends : Paged m u q → Ends u.cells (paged_from m (job u q))
     unfolding paged_from outer_fault faulted run outcome

@@ -6,7 +6,8 @@ use native.Mathlib.Omega.{arith}
 use lib.Dec.{eqb, ltb}
 use lib.ListN.{length}
 use borrow.Author.Tests.{eqb-true, eqb-false, eq-eqb, ltb-true, ltb-false, not-true}
-use Rattle.rules.specs.Types.{Wait, Core, Maps, Size, Access, Call, Operating, Associative, Register, Target, Place, Part, Entry, Due, Fault, Ruling, Answer, Effect, Outcome, Job}
+use Rattle.std.specs.Prelude.{Result, Ok, Err}
+use Rattle.rules.specs.Types.{Wait, Core, Maps, Size, Access, Call, Operating, Associative, Register, Target, Place, Part, Entry, Due, Fault, Answer, Effect, Outcome, Job}
 use Rattle.rules.specs.Memory.{Memory, good_length}
 use Rattle.rules.specs.Registers.{part_of}
 use Rattle.rules.specs.Maps.{unpaged, unpaged_at, physical_at, low9}
@@ -182,10 +183,10 @@ module _ (c : Core) (m : Memory) (j : Job) (shaped : Shaped j.q) (calm : CoreFit
   inner_target-ends at Place.Window h = inner_fault-ends _
   inner_target-ends at Place.Nowhere h = inner_fault-ends _
 
-  inner_ruled-ends : (d : Ruling) → Aligned j.q (window_addr j) → Always (Ending c) (inner_ruled m j d)
+  inner_ruled-ends : (d : Result ℕ Fault) → Aligned j.q (window_addr j) → Always (Ending c) (inner_ruled m j d)
   unfolding inner_ruled
-  inner_ruled-ends (Ruling.Refused f) h = inner_fault-ends f
-  inner_ruled-ends (Ruling.Granted page) h = inner_target-ends _ _ (λ o. physical_aligned page (window_addr j) (h o))
+  inner_ruled-ends (Err f) h = inner_fault-ends f
+  inner_ruled-ends (Ok page) h = inner_target-ends _ _ (λ o. physical_aligned page (window_addr j) (h o))
 
   windowed-ends : Always (Ending c) (windowed m j)
   unfolding windowed
@@ -205,10 +206,10 @@ module _ (c : Core) (m : Memory) (j : Job) (shaped : Shaped j.q) (calm : CoreFit
   outer_target-ends at e Place.Window h = picked (Always (Ending c)) (is_fetch j.q) _ _ (λ t. outer_fault-ends _) (λ t. windowed-ends)
   outer_target-ends at e Place.Nowhere h = outer_fault-ends _
 
-  outer_ruled-ends : (e : Entry) (d : Ruling) → Aligned j.q j.q.addr → Always (Ending c) (outer_ruled m j e d)
+  outer_ruled-ends : (e : Entry) (d : Result ℕ Fault) → Aligned j.q j.q.addr → Always (Ending c) (outer_ruled m j e d)
   unfolding outer_ruled
-  outer_ruled-ends e (Ruling.Refused f) h = outer_fault-ends f
-  outer_ruled-ends e (Ruling.Granted page) h = outer_target-ends _ e _ (λ o. physical_aligned page j.q.addr (h o))
+  outer_ruled-ends e (Err f) h = outer_fault-ends f
+  outer_ruled-ends e (Ok page) h = outer_target-ends _ e _ (λ o. physical_aligned page j.q.addr (h o))
 
   paged_from-ends : Always (Ending c) (paged_from m j)
   unfolding paged_from

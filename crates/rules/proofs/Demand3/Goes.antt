@@ -6,7 +6,8 @@ use mathlib.Core.List.{List, [], ◌++◌, append-nil}
 use native.Mathlib.Omega.{arith}
 use lib.Dec.{ltb}
 use lib.ListN.{length}
-use Rattle.rules.specs.Types.{Cells, Unit, Access, Target, Place, Entry, Due, Ruling, Job}
+use Rattle.std.specs.Prelude.{Result, Ok, Err}
+use Rattle.rules.specs.Types.{Cells, Unit, Access, Target, Place, Entry, Due, Job, Fault}
 use Rattle.rules.specs.Memory.{Memory}
 use Rattle.rules.specs.Registers.{place_of}
 use Rattle.rules.specs.Maps.{unpaged, unpaged_at, page_of}
@@ -72,10 +73,10 @@ module _ (m : Memory) (u : Unit) (j : Job) where
   inner_target-silent at Place.Window k = refl
   inner_target-silent at Place.Nowhere k = refl
 
-  inner_ruled-silent : (d : Ruling) → IsSilent (inner_ruled m j d)
+  inner_ruled-silent : (d : Result ℕ Fault) → IsSilent (inner_ruled m j d)
   unfolding inner_ruled inner_fault faulted visits_of
-  inner_ruled-silent (Ruling.Refused f) k = refl
-  inner_ruled-silent (Ruling.Granted page) k = inner_target-silent _ _ k
+  inner_ruled-silent (Err f) k = refl
+  inner_ruled-silent (Ok page) k = inner_target-silent _ _ k
 
 -- The steps ------------------------------------------------------------------------------------------------------------------
 
@@ -95,7 +96,7 @@ module _ (m : Memory) (u : Unit) (q : Access) where
   ends-here a n e = rw (e, append-nil) (one-page a n)
 
   -- what the keys say of the entry, they say once
-  same-ruling : {g g₁ : Ruling} → Keys q.op (watches (job u q).core.fetch q) (outer m u q).entry g → Keys q.op (watches (job u q).core.fetch q) (outer m u q).entry g₁ → g ≡ g₁
+  same-ruling : {g g₁ : Result ℕ Fault} → Keys q.op (watches (job u q).core.fetch q) (outer m u q).entry g → Keys q.op (watches (job u q).core.fetch q) (outer m u q).entry g₁ → g ≡ g₁
   same-ruling h h₁ = sym (keys_judged h) ∙ keys_judged h₁
 
   windowed-goes : Windowed m u q → IsOnward (windowed m (job u q))
@@ -125,11 +126,11 @@ module _ (m : Memory) (u : Unit) (q : Access) where
       ends-here s.steps (λ i. let w : Place.Window ≡ Place.Nowhere = elsewhere e s i in let y : ◌≡◌ {A = ℕ} 0 1 = cc in omega arith) refl
 
   outer_ruled-goes :
-      (g : Ruling) → Keys q.op (watches (job u q).core.fetch q) (outer m u q).entry g → Asked m u q
+      (g : Result ℕ Fault) → Keys q.op (watches (job u q).core.fetch q) (outer m u q).entry g → Asked m u q
       → IsOnward (outer_ruled m (job u q) (outer m u q).entry g)
   unfolding outer_ruled outer_fault faulted visits_of
-  outer_ruled-goes (Ruling.Refused f) h s = ends-here s (λ i. let y : ◌≡◌ {A = ℕ} 0 1 = cc (same-ruling i.steps.steps.keys h) in omega arith) refl
-  outer_ruled-goes (Ruling.Granted page) h s = outer_target-goes (place_of u.cells.size (length m) (outer_at q page)) refl (record { steps = s; keys = h })
+  outer_ruled-goes (Err f) h s = ends-here s (λ i. let y : ◌≡◌ {A = ℕ} 0 1 = cc (same-ruling i.steps.steps.keys h) in omega arith) refl
+  outer_ruled-goes (Ok page) h s = outer_target-goes (place_of u.cells.size (length m) (outer_at q page)) refl (record { steps = s; keys = h })
 
   paged_from-goes : Paged m u q → GoesTo m u q (visits_of m u.maps (paged_from m (job u q)) u.cells)
   unfolding paged_from outer_fault faulted visits_of

@@ -6,7 +6,8 @@ use mathlib.Core.List.{[]}
 use lib.Dec.{ltb}
 use lib.ListN.{length}
 use borrow.Author.Tests.{lt-ltb}
-use Rattle.rules.specs.Types.{Cells, Unit, Access, Operating, Associative, Register, Target, Place, Part, Entry, Due, Ruling, Physical, Job}
+use Rattle.std.specs.Prelude.{Some, Result, Ok, Err}
+use Rattle.rules.specs.Types.{Cells, Unit, Access, Operating, Associative, Register, Target, Place, Part, Entry, Due, Job, Fault}
 use Rattle.rules.specs.Memory.{Memory}
 use Rattle.rules.specs.Registers.{place_of, part_of}
 use Rattle.rules.specs.Maps.{unpaged, unpaged_at}
@@ -37,7 +38,7 @@ module _ (m : Memory) (u : Unit) (op : ℕ) where
   record Answers (at : ℕ) (p : Prog) (k : Cells) : Type 0 where
     peeks-none : peeks m u.maps p k ≡ false
     stores_none : stores_pad (run m u.maps p k).outcome.effect ≡ false
-    physical : (shown (run m u.maps p k).outcome.answer).physical ≡ Physical.At at
+    physical : (shown (run m u.maps p k).outcome.answer).physical ≡ Some at
 
   module _ (j : Job) (at : ℕ) (reads : ltb op 2 ≡ true) (f : ℕ → Prog) (h : (w : ℕ) (k : Cells) → Answers at (f w) k) where
     -- a read of what the cells take no part in
@@ -132,13 +133,13 @@ module _ (m : Memory) (u : Unit) (q : Access) (shaped : well_shaped (length m) q
   inner_target-reached at Place.Window k e = refl
   inner_target-reached at Place.Nowhere k e = refl
 
-  inner_ruled-reached : {e : Entry} {d : Ruling} (k : Cells) → Keys q.op false e d → IsReached k (inner_ruled m (job u q) d)
+  inner_ruled-reached : {e : Entry} {d : Result ℕ Fault} (k : Cells) → Keys q.op false e d → IsReached k (inner_ruled m (job u q) d)
   unfolding inner_ruled inner_fault faulted peeks run outcome stores_pad shown fault_shown shown_as
-  inner_ruled-reached {d = Ruling.Granted page} k h = inner_target-reached (inner_at u q page) _ k refl
-  inner_ruled-reached {d = Ruling.Refused f} k off-map = refl
-  inner_ruled-reached {d = Ruling.Refused f} k (not_resident r) = refl
-  inner_ruled-reached {d = Ruling.Refused f} k (not_writable r l) = refl
-  inner_ruled-reached {d = Ruling.Refused f} k (not_public r l x) = refl
+  inner_ruled-reached {d = Ok page} k h = inner_target-reached (inner_at u q page) _ k refl
+  inner_ruled-reached {d = Err f} k off-map = refl
+  inner_ruled-reached {d = Err f} k (not_resident r) = refl
+  inner_ruled-reached {d = Err f} k (not_writable r l) = refl
+  inner_ruled-reached {d = Err f} k (not_public r l x) = refl
 
   windowed-reached : (k : Cells) → IsReached k (windowed m (job u q))
   unfolding windowed inner_fault faulted peeks run outcome stores_pad shown fault_shown shown_as
@@ -154,13 +155,13 @@ module _ (m : Memory) (u : Unit) (q : Access) (shaped : well_shaped (length m) q
   outer_target-reached at e Place.Nowhere k p = refl
 
   outer_ruled-reached :
-      {watched : Bool} {e : Entry} {d : Ruling} (k : Cells) → Keys q.op watched e d → IsReached k (outer_ruled m (job u q) e d)
+      {watched : Bool} {e : Entry} {d : Result ℕ Fault} (k : Cells) → Keys q.op watched e d → IsReached k (outer_ruled m (job u q) e d)
   unfolding outer_ruled outer_fault faulted peeks run outcome stores_pad shown fault_shown shown_as
-  outer_ruled-reached {e = e} {d = Ruling.Granted page} k h = outer_target-reached (outer_at q page) e _ k refl
-  outer_ruled-reached {d = Ruling.Refused f} k off-map = refl
-  outer_ruled-reached {d = Ruling.Refused f} k (not_resident r) = refl
-  outer_ruled-reached {d = Ruling.Refused f} k (not_writable r l) = refl
-  outer_ruled-reached {d = Ruling.Refused f} k (not_public r l x) = refl
+  outer_ruled-reached {e = e} {d = Ok page} k h = outer_target-reached (outer_at q page) e _ k refl
+  outer_ruled-reached {d = Err f} k off-map = refl
+  outer_ruled-reached {d = Err f} k (not_resident r) = refl
+  outer_ruled-reached {d = Err f} k (not_writable r l) = refl
+  outer_ruled-reached {d = Err f} k (not_public r l x) = refl
 
   paged_from-reached : (k : Cells) → IsReached k (paged_from m (job u q))
   unfolding paged_from outer_fault faulted peeks run outcome stores_pad shown fault_shown shown_as

@@ -5,7 +5,8 @@ use mathlib.Core.List.{[], ◌∷◌}
 use Prim.Native.Nat.{ℕ, ◌-◌, ◌<◌}
 use lib.Dec.{eqb}
 use borrow.Author.Tests.{eqb-true, eqb-false, not-true}
-use Rattle.rules.specs.Types.{Maps, Cell, Cells, Found, Walk, Entry, Effect}
+use Rattle.std.specs.Prelude.{Option, Some, None}
+use Rattle.rules.specs.Types.{Maps, Cell, Cells, Walked, Entry, Effect}
 use Rattle.rules.specs.Memory.{Memory, even_of, store_word, store_byte}
 use Rattle.rules.specs.Unit.{there, empty_cell, cell_at, emptied}
 use Rattle.rules.specs.Maps.{exec_zero, exec_zero_entry, walk_of, entry_of, walked, tag_of, cell_of, filled, filled_by, missed, sought_in, looked, holds, forgotten}
@@ -94,17 +95,17 @@ module _ (m : Memory) (r : Maps) (k : Cells) (h : History) (s : Sound m r k h) (
                 (cell_holds i));
           }
 
-      filled_by-sound : (w : Walk) → walk_of m r user p ≡ w → Sound m r (filled_by k (tag_of user p) w) after
+      filled_by-sound : (w : Option Walked) → walk_of m r user p ≡ w → Sound m r (filled_by k (tag_of user p) w) after
       unfolding filled_by
-      filled_by-sound (Walk.Finished a rs) e = filled-sound a (ap entry_of e ∙ unfold entry_of in refl)
-      filled_by-sound Walk.Off e = kept_sound
+      filled_by-sound (Some a) e = filled-sound a.word (ap entry_of e ∙ unfold entry_of in refl)
+      filled_by-sound None e = kept_sound
 
       sought :
-          (f : Found) → cell_of k (tag_of user p) ≡ f
+          (f : Option ℕ) → cell_of k (tag_of user p) ≡ f
           → ((sought_in m r user p k f).entry ≡ entry_of (walk_of m r user p)) × Sound m r (sought_in m r user p k f).cells after
       unfolding sought_in missed
-      sought (Found.At i) e = (sym (held_true (s.held i user p b x (found_has_tag k i (tag_of user p) e)) fit), kept_sound)
-      sought Found.Missing e = (refl, filled_by-sound (walk_of m r user p) refl)
+      sought (Some i) e = (sym (held_true (s.held i user p b x (found_has_tag k i (tag_of user p) e)) fit), kept_sound)
+      sought None e = (refl, filled_by-sound (walk_of m r user p) refl)
 
   pub asked : none_outdated h (visit m r user p) ≡ true → Asked
   unfolding looked walked visit in_use_after none_outdated

@@ -5,7 +5,8 @@ use mathlib.Core.List.{List, [], ◌∷◌, ◌++◌}
 use Prim.Native.Nat.{ℕ}
 use lib.Dec.{eqb}
 use borrow.Author.Tests.{eqb-true}
-use Rattle.rules.specs.Types.{Walk}
+use Rattle.std.specs.Prelude.{Option}
+use Rattle.rules.specs.Types.{Walked}
 use Rattle.rules.specs.Runs.{Visit, Use, History, used_by, told, in_use_after, is_outdated, none_outdated}
 use Rattle.rules.proofs.Laws.Choices.{both_true, picked}
 use Rattle.rules.proofs.Demand3.Uses.{used-outdated}
@@ -30,7 +31,7 @@ none_outdated-right h (v ∷ vs) ws e =
     none_outdated-right h vs ws (both_true (not (is_outdated (h v.tag))) (none_outdated h (vs ++ ws)) e).1
 
 -- coming into use makes no page outdated
-entering_outdates_none : (h : History) (w : Walk) (tag t : ℕ) → is_outdated (told h tag (used_by w (h tag)) t) ≡ is_outdated (h t)
+entering_outdates_none : (h : History) (w : Option Walked) (tag t : ℕ) → is_outdated (told h tag (used_by w (h tag)) t) ≡ is_outdated (h t)
 unfolding told
 entering_outdates_none h w tag t =
     picked (λ (u : Use). is_outdated u ≡ is_outdated (h t)) (eqb t tag) _ _

@@ -8,7 +8,8 @@ use native.Mathlib.Omega.{arith}
 use lib.Dec.{eqb}
 use lib.ListN.{length, get_or, set, length-replicate, get_or-map, get_or-eq_default}
 use borrow.Author.Tests.{eqb-false}
-use Rattle.rules.specs.Types.{Maps, Cell, Size, Cells, Unit, Call, Found, Part, Walk, Effect, Outcome, Looked}
+use Rattle.std.specs.Prelude.{Option, Some, None}
+use Rattle.rules.specs.Types.{Maps, Cell, Size, Cells, Unit, Call, Part, Walked, Effect, Outcome, Looked}
 use Rattle.rules.specs.Choice.{pick}
 use Rattle.rules.specs.Memory.{Memory}
 use Rattle.rules.specs.Unit.{count_of, room, there, zero_unit, empty_cell, cell_at, emptied}
@@ -134,7 +135,7 @@ module _ (n : ℕ) where
             (⊎_elim (λ a. ap tag_in a.1 ∙ cell_stored-tag (cell_at k i) p v ∙ ap (λ (x : ℕ). (cell_at k x).tag) (sym a.0)) (λ a. ap tag_in a)
             (set_cases (there k) j i (cell_stored (cell_at k i) p v) empty_cell))
 
-    module _ (tag : ℕ) (z : tag ≡ 0 → ⊥) (b : tag < 256) (missing : cell_of k tag ≡ Found.Missing) where
+    module _ (tag : ℕ) (z : tag ≡ 0 → ⊥) (b : tag < 256) (missing : cell_of k tag ≡ None) where
       filled-once :
           (w i j : ℕ) → (cell_at (filled k tag w) i).tag ≡ (cell_at (filled k tag w) j).tag → ((cell_at (filled k tag w) i).tag ≡ 0 → ⊥) → i ≡ j
       unfolding tag_in
@@ -177,19 +178,19 @@ module _ (n : ℕ) where
               (get_d_set_either CellFit (there k) i (k.counter - 0o10) (record { tag = tag; word = w }) empty_cell
               (record { empty = λ e. absurd (z e); tag = b }) (cell_fit i))
 
-      filled_by-fit : (w : Walk) → CellsFit n (filled_by k tag w)
+      filled_by-fit : (w : Option Walked) → CellsFit n (filled_by k tag w)
       unfolding filled_by
-      filled_by-fit (Walk.Finished w rs) = filled-fit w
-      filled_by-fit Walk.Off = h
+      filled_by-fit (Some w) = filled-fit w.word
+      filled_by-fit None = h
 
     looked-fit : (m : Memory) (r : Maps) (user : Bool) (p : ℕ) → p < 128 → CellsFit n (looked m r user p k).cells
     unfolding looked sought_in missed
     looked-fit m r user p b =
         picked (λ (l : Looked). CellsFit n l.cells) (exec_zero user p) _ _ (λ t. h) (λ t. go t (cell_of k (tag_of user p)) refl)
       where
-        go : exec_zero user p ≡ false → (f : Found) → cell_of k (tag_of user p) ≡ f → CellsFit n (sought_in m r user p k f).cells
-        go x (Found.At i) e = h
-        go x Found.Missing e = filled_by-fit (tag_of user p) (tag-other user p x) (tag_of-below user p b) e (walk_of m r user p)
+        go : exec_zero user p ≡ false → (f : Option ℕ) → cell_of k (tag_of user p) ≡ f → CellsFit n (sought_in m r user p k f).cells
+        go x (Some i) e = h
+        go x None e = filled_by-fit (tag_of user p) (tag-other user p x) (tag_of-below user p b) e (walk_of m r user p)
 
     effect-fit : (e : Effect) → CellsFit n (cells_after e k)
     unfolding cells_after

@@ -8,7 +8,8 @@ use borrow.Author.Tests.{eq-eqb, ne_eqb}
 use lib.Dec.{eqb}
 use lib.Seq.{length-take-le}
 use lib.ListN.{length, get_or, set, replicate, get_or-map}
-use Rattle.rules.specs.Types.{Cell, Size, Cells, Found, Part}
+use Rattle.std.specs.Prelude.{Some, None}
+use Rattle.rules.specs.Types.{Cell, Size, Cells, Part}
 use Rattle.rules.specs.Choice.{pick}
 use Rattle.rules.specs.Unit.{count_of, room, there, empty_cell, cell_at, emptied}
 use Rattle.rules.specs.Registers.{cell_stored, pad_stored}
@@ -73,14 +74,14 @@ unfolding tag_in
 tag_at k i = get_or-map tag_in (there k) i empty_cell
 
 -- the cell that is found has the tag
-pub found_has_tag : (k : Cells) (i tag : ℕ) → cell_of k tag ≡ Found.At i → (cell_at k i).tag ≡ tag
+pub found_has_tag : (k : Cells) (i tag : ℕ) → cell_of k tag ≡ Some i → (cell_at k i).tag ≡ tag
 unfolding cell_of
 found_has_tag k i tag e =
     let (j, n, h) = found_is_there (tag_in empty_cell) 0 i tag (map tag_in (there k)) e in
     let same : i ≡ j = omega arith in rw same (sym (tag_at k j) ∙ h)
 
 -- where none is found, no cell has it
-pub missing_has_none : (k : Cells) (tag : ℕ) → cell_of k tag ≡ Found.Missing → (tag ≡ 0 → ⊥) → (i : ℕ) → (cell_at k i).tag ≡ tag → ⊥
+pub missing_has_none : (k : Cells) (tag : ℕ) → cell_of k tag ≡ None → (tag ≡ 0 → ⊥) → (i : ℕ) → (cell_at k i).tag ≡ tag → ⊥
 unfolding cell_of tag_in empty_cell
 missing_has_none k tag e z i h =
     missing_is_nowhere (tag_in empty_cell) 0 tag (map tag_in (there k)) e (λ q. z (sym q)) i (tag_at k i ∙ h)

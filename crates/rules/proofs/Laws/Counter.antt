@@ -6,7 +6,8 @@ use native.Mathlib.Omega.{arith}
 use lib.Dec.{ltb}
 use lib.ListN.{length, length-set, length-map, length-replicate}
 use borrow.Author.Tests.{ltb-true}
-use Rattle.rules.specs.Types.{Maps, Cells, Found, Part, Walk, Looked, Effect}
+use Rattle.std.specs.Prelude.{Option, Some, None}
+use Rattle.rules.specs.Types.{Maps, Cells, Part, Walked, Looked, Effect}
 use Rattle.rules.specs.Memory.{Memory}
 use Rattle.rules.specs.Unit.{count_of, room, there, empty_cell, emptied}
 use Rattle.rules.specs.Registers.{pad_stored}
@@ -69,16 +70,16 @@ module _ (n : ℕ) where
           (picked (λ (x : ℕ). (0o10 ≤ x) × (x < 0o10 + n)) (ltb k.counter (0o7 + n)) _ _
           (λ t. omega (arith, h.from, ltb-true k.counter (0o7 + n) t)) (λ t. omega (arith, h.from, h.below)))
 
-  filled_by-names : (k : Cells) (tag : ℕ) (w : Walk) → NamesCell n k → NamesCell n (filled_by k tag w)
+  filled_by-names : (k : Cells) (tag : ℕ) (w : Option Walked) → NamesCell n k → NamesCell n (filled_by k tag w)
   unfolding filled_by
-  filled_by-names k tag (Walk.Finished w rs) h = filled-names k tag w h
-  filled_by-names k tag Walk.Off h = h
+  filled_by-names k tag (Some w) h = filled-names k tag w.word h
+  filled_by-names k tag None h = h
 
   sought_names :
-      (m : Memory) (r : Maps) (user : Bool) (p : ℕ) (k : Cells) (f : Found) → NamesCell n k → NamesCell n (sought_in m r user p k f).cells
+      (m : Memory) (r : Maps) (user : Bool) (p : ℕ) (k : Cells) (f : Option ℕ) → NamesCell n k → NamesCell n (sought_in m r user p k f).cells
   unfolding sought_in missed
-  sought_names m r user p k (Found.At i) h = h
-  sought_names m r user p k Found.Missing h = filled_by-names k (tag_of user p) (walk_of m r user p) h
+  sought_names m r user p k (Some i) h = h
+  sought_names m r user p k None h = filled_by-names k (tag_of user p) (walk_of m r user p) h
 
   looked-names : (m : Memory) (r : Maps) (user : Bool) (p : ℕ) (k : Cells) → NamesCell n k → NamesCell n (looked m r user p k).cells
   unfolding looked

@@ -8,7 +8,7 @@ use native.Mathlib.Omega.{arith}
 use lib.Dec.{eqb}
 use lib.ListN.{length, get_or, set, take, replicate}
 use borrow.Author.Tests.{eqb-true, eqb-false}
-use Rattle.rules.specs.Types.{Found}
+use Rattle.std.specs.Prelude.{Some, None}
 use Rattle.rules.specs.Choice.{pick}
 use Rattle.rules.specs.Registers.{found_from}
 
@@ -56,27 +56,27 @@ module _ {A : Type 0} where
 
 -- an element that is found is there
 pub found_is_there :
-    (d n i x : ℕ) (l : List ℕ) → found_from n l x ≡ Found.At i → (j : ℕ) × (i ≡ n + j) × (get_or l j d ≡ x)
+    (d n i x : ℕ) (l : List ℕ) → found_from n l x ≡ Some i → (j : ℕ) × (i ≡ n + j) × (get_or l j d ≡ x)
 unfolding found_from pick
 found_is_there d n i x [] e = absurd (let z : ◌≡◌ {A = ℕ} 0 1 = cc in omega arith)
 found_is_there d n i x (y ∷ ys) e = go (eqb x y) refl e (found_is_there d (suc n) i x ys)
   where
-    go : (t : Bool) → eqb x y ≡ t → pick t (Found.At n) (found_from (suc n) ys x) ≡ Found.At i
-        → (found_from (suc n) ys x ≡ Found.At i → (j : ℕ) × (i ≡ suc n + j) × (get_or ys j d ≡ x))
+    go : (t : Bool) → eqb x y ≡ t → pick t (Some n) (found_from (suc n) ys x) ≡ Some i
+        → (found_from (suc n) ys x ≡ Some i → (j : ℕ) × (i ≡ suc n + j) × (get_or ys j d ≡ x))
         → (j : ℕ) × (i ≡ n + j) × (get_or (y ∷ ys) j d ≡ x)
     go true t e ih = let s : i ≡ n = cc in (0, omega arith, sym (eqb-true x y t))
     go false t e ih = let r = ih e in (suc r.0, omega arith, r.2)
 
 -- one that is missing is nowhere
 pub missing_is_nowhere :
-    (d n x : ℕ) (l : List ℕ) → found_from n l x ≡ Found.Missing → (d ≡ x → ⊥) → (j : ℕ) → get_or l j d ≡ x → ⊥
+    (d n x : ℕ) (l : List ℕ) → found_from n l x ≡ None → (d ≡ x → ⊥) → (j : ℕ) → get_or l j d ≡ x → ⊥
 unfolding found_from pick
 missing_is_nowhere d n x [] e o j h = o h
 missing_is_nowhere d n x (y ∷ ys) e o j h = go (eqb x y) refl e j h (missing_is_nowhere d (suc n) x ys)
   where
-    go : (t : Bool) → eqb x y ≡ t → pick t (Found.At n) (found_from (suc n) ys x) ≡ Found.Missing
+    go : (t : Bool) → eqb x y ≡ t → pick t (Some n) (found_from (suc n) ys x) ≡ None
         → (j : ℕ) → get_or (y ∷ ys) j d ≡ x
-        → (found_from (suc n) ys x ≡ Found.Missing → (d ≡ x → ⊥) → (j : ℕ) → get_or ys j d ≡ x → ⊥) → ⊥
+        → (found_from (suc n) ys x ≡ None → (d ≡ x → ⊥) → (j : ℕ) → get_or ys j d ≡ x → ⊥) → ⊥
     go true t e j h ih = let z : ◌≡◌ {A = ℕ} 0 1 = cc in omega arith
     go false t e zero h ih = eqb-false x y t (sym h)
     go false t e (suc j) h ih = ih e o j h

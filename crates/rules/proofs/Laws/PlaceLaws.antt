@@ -8,7 +8,8 @@ use lib.Dec.{eqb, ltb, leb}
 use lib.ListN.{take}
 use lib.Seq.{take-append-add}
 use borrow.Author.Tests.{eq-eqb, ne_eqb, le-ltb, leb-true}
-use Rattle.rules.specs.Types.{Size, Found, Associative, Register, Target, Place}
+use Rattle.std.specs.Prelude.{Some}
+use Rattle.rules.specs.Types.{Size, Associative, Register, Target, Place}
 use Rattle.rules.specs.Choice.{pick}
 use Rattle.rules.specs.Memory.{good_length, even_of}
 use Rattle.rules.specs.Unit.{count_of}
@@ -29,13 +30,13 @@ past_words i a (suc n) x ys h =
     (past_words (suc i) (a + 2) n x ys (omega (arith, h)) ∙ ap (λ (j : ℕ). found_from j ys x) (omega arith))
 
 -- a word of the row is found at its place
-word_found : (i a n j : ℕ) → j < n → found_from i (words_from a n) (a + 2 * j) ≡ Found.At (i + j)
+word_found : (i a n j : ℕ) → j < n → found_from i (words_from a n) (a + 2 * j) ≡ Some (i + j)
 unfolding found_from words_from pick
 word_found i a zero j h = elim h [ ]
-word_found i a (suc n) zero h = rw (eq-eqb (a + 2 * 0) a (omega arith)) (ap Found.At (omega arith))
+word_found i a (suc n) zero h = rw (eq-eqb (a + 2 * 0) a (omega arith)) (ap Some (omega arith))
 word_found i a (suc n) (suc j) h =
     rw (ne_eqb (a + 2 * suc j) a (omega arith))
-    (ap (found_from (suc i) (words_from (a + 2) n)) (omega arith) ∙ word_found (suc i) (a + 2) n j (omega (arith, h)) ∙ ap Found.At (omega arith))
+    (ap (found_from (suc i) (words_from (a + 2) n)) (omega arith) ∙ word_found (suc i) (a + 2) n j (omega (arith, h)) ∙ ap Some (omega arith))
 
 -- a row of words is the beginning of a longer one
 pub words_from-first : (a n room : ℕ) → n ≤ room → take n (words_from a room) ≡ words_from a n

@@ -8,11 +8,12 @@ use lib.Dec.{eqb, ltb}
 use lib.ListN.{length, set, length-set}
 use lib.Seq.{get_or-set_other}
 use borrow.Author.Tests.{eqb-false}
-use Rattle.rules.specs.Types.{Maps, Reads, Walk}
+use Rattle.std.specs.Prelude.{Option, Some, None}
+use Rattle.rules.specs.Types.{Maps, Reads, Walked}
 use Rattle.rules.specs.Choice.{pick}
 use Rattle.rules.specs.Memory.{Memory, byte_at, word_at, even_of, store_word, store_byte}
 use Rattle.rules.specs.Registers.{among}
-use Rattle.rules.specs.Maps.{low9, high7, upper_at, lower_at, pointed_at, unless_off, word_walk, followed, pointer_walk, exec_walk, user_walk, walk_of, reads_of}
+use Rattle.rules.specs.Maps.{low9, high7, upper_at, lower_at, pointed_at, unless_off, word_walk, followed, pointer_walk, exec_walk, user_walk, walk_of, reads_of, finished}
 use Rattle.rules.proofs.Laws.Choices.{both_false}
 use Rattle.rules.proofs.Laws.SearchLaws.{among_first}
 
@@ -65,8 +66,16 @@ unfolding pointed_at
 pointed_at-even w = upper_at-even (low9 w) (high7 w)
 
 -- One walk is another, if the latter was finished and read nothing at this even address.
-abbrev pub Spared : ℕ → Walk → Walk → Type 0
-Spared e w w₁ = (v : ℕ) (rs : Reads) → w ≡ Walk.Finished v rs → among e (reads_of rs) ≡ false → w₁ ≡ w
+abbrev pub Spared : ℕ → Option Walked → Option Walked → Type 0
+Spared e w w₁ = (v : ℕ) (rs : Reads) → w ≡ finished v rs → among e (reads_of rs) ≡ false → w₁ ≡ w
+
+-- where the words stand that were read for a walk, if it ended
+abbrev reads_or : Reads → Option Walked → Reads
+reads_or rs (Some w) = w.reads
+reads_or rs None = rs
+
+finished_reads : {v v₁ : ℕ} {rs rs₁ : Reads} → finished v rs ≡ finished v₁ rs₁ → rs₁ ≡ rs
+finished_reads {rs = rs} e = sym (ap (reads_or rs) e)
 
 module _ (e : ℕ) (m n : Memory) (d : DifferAt e m n) where
   word_walk-spared : (at : ℕ) → at % 2 ≡ 0 → Spared e (word_walk m at) (word_walk n at)
@@ -74,28 +83,28 @@ module _ (e : ℕ) (m n : Memory) (d : DifferAt e m n) where
   word_walk-spared at even v rs f h = rw d.lengths (go (ltb at (length m)) f)
     where
       go :
-          (t : Bool) → pick t (Walk.Finished (word_at m at) (Reads.Direct at)) Walk.Off ≡ Walk.Finished v rs
-          → pick t (Walk.Finished (word_at n at) (Reads.Direct at)) Walk.Off ≡ pick t (Walk.Finished (word_at m at) (Reads.Direct at)) Walk.Off
+          (t : Bool) → pick t (finished (word_at m at) (Reads.Direct at)) None ≡ finished v rs
+          → pick t (finished (word_at n at) (Reads.Direct at)) None ≡ pick t (finished (word_at m at) (Reads.Direct at)) None
       go true f =
-          let same : rs ≡ Reads.Direct at = cc in
+          let same : rs ≡ Reads.Direct at = finished_reads f in
           let (k, _) = both_false (eqb e at) _ (sym (among_first e at []) ∙ rw same at h) in
-          ap (λ (w : ℕ). Walk.Finished w (Reads.Direct at)) (d.others at even (eqb-false e at k))
+          ap (λ (w : ℕ). finished w (Reads.Direct at)) (d.others at even (eqb-false e at k))
       go false f = refl
 
   followed-spared :
-      (from at v : ℕ) (rs : Reads) → from % 2 ≡ 0 → at % 2 ≡ 0 → followed m from at ≡ Walk.Finished v rs → among e (reads_of rs) ≡ false
+      (from at v : ℕ) (rs : Reads) → from % 2 ≡ 0 → at % 2 ≡ 0 → followed m from at ≡ finished v rs → among e (reads_of rs) ≡ false
       → (word_at n from ≡ word_at m from) × (followed n from at ≡ followed m from at)
   unfolding followed unless_off reads_of pick
   followed-spared from at v rs even even₁ f h = rw d.lengths (go (ltb at (length m)) f)
     where
-      ended : ℕ → Walk
-      ended w = Walk.Finished w (Reads.Pointed from at)
+      ended : ℕ → Option Walked
+      ended w = finished w (Reads.Pointed from at)
 
       go :
-          (t : Bool) → pick t (ended (word_at m at)) Walk.Off ≡ Walk.Finished v rs
-          → (word_at n from ≡ word_at m from) × (pick t (ended (word_at n at)) Walk.Off ≡ pick t (ended (word_at m at)) Walk.Off)
+          (t : Bool) → pick t (ended (word_at m at)) None ≡ finished v rs
+          → (word_at n from ≡ word_at m from) × (pick t (ended (word_at n at)) None ≡ pick t (ended (word_at m at)) None)
       go true f =
-          let same : rs ≡ Reads.Pointed from at = cc in
+          let same : rs ≡ Reads.Pointed from at = finished_reads f in
           let (k, l) = both_false (eqb e from) _ (sym (among_first e from (at ∷ [])) ∙ rw same at h) in
           let (k₁, _) = both_false (eqb e at) _ (sym (among_first e at []) ∙ l) in
           (d.others from even (eqb-false e from k), ap ended (d.others at even₁ (eqb-false e at k₁)))
@@ -106,14 +115,14 @@ module _ (e : ℕ) (m n : Memory) (d : DifferAt e m n) where
   pointer_walk-spared from even v rs f h = rw d.lengths (go (ltb from (length m)) f)
     where
       go :
-          (t : Bool) → pick t (followed m from (pointed_at (word_at m from))) Walk.Off ≡ Walk.Finished v rs
-          → pick t (followed n from (pointed_at (word_at n from))) Walk.Off ≡ pick t (followed m from (pointed_at (word_at m from))) Walk.Off
+          (t : Bool) → pick t (followed m from (pointed_at (word_at m from))) None ≡ finished v rs
+          → pick t (followed n from (pointed_at (word_at n from))) None ≡ pick t (followed m from (pointed_at (word_at m from))) None
       go true f =
           let (pointer, word) = followed-spared from (pointed_at (word_at m from)) v rs even (pointed_at-even (word_at m from)) f h in
           rw pointer word
       go false f = refl
 
-  pick-spared : (t : Bool) (a b a₁ b₁ : Walk) → Spared e a a₁ → Spared e b b₁ → Spared e (pick t a b) (pick t a₁ b₁)
+  pick-spared : (t : Bool) (a b a₁ b₁ : Option Walked) → Spared e a a₁ → Spared e b b₁ → Spared e (pick t a b) (pick t a₁ b₁)
   unfolding pick
   pick-spared true a b a₁ b₁ f g = f
   pick-spared false a b a₁ b₁ f g = g

@@ -8,10 +8,11 @@ use mathlib.Core.Bool.{true, false}
 use lib.Dec.{ltb}
 use lib.ListN.{length}
 use borrow.Author.Tests.{leb-true, le-leb, lt-leb, lt-ltb, le-ltb}
-use Rattle.rules.specs.Types.{Maps, Reads, Walk}
+use Rattle.std.specs.Prelude.{Option, None}
+use Rattle.rules.specs.Types.{Maps, Reads, Walked}
 use Rattle.rules.specs.Choice.{pick}
 use Rattle.rules.specs.Memory.{Memory, word_at}
-use Rattle.rules.specs.Maps.{low9, high7, simple, upper_at, lower_at, pointed_at, unless_off, word_walk, followed, pointer_walk, exec_walk, user_walk, walk_of}
+use Rattle.rules.specs.Maps.{low9, high7, simple, upper_at, lower_at, pointed_at, unless_off, word_walk, followed, pointer_walk, exec_walk, user_walk, walk_of, finished}
 use Rattle.rules.proofs.Laws.Choices.{pick_true, pick-false}
 
 -- of every map register and page
@@ -42,16 +43,16 @@ pub record WalksByBoundary : Type 0 where
 
 -- Of every memory and place: what a walk comes to that reads a map word there, or a pointer. A word at or beyond L is not there (T-01: the walk ran off memory).
 pub record WordsRead : Type 0 where
-  pub word : (m : Memory) (at : ℕ) → at < length m → word_walk m at ≡ Walk.Finished (word_at m at) (Reads.Direct at)
-  pub word_off : (m : Memory) (at : ℕ) → length m ≤ at → word_walk m at ≡ Walk.Off
+  pub word : (m : Memory) (at : ℕ) → at < length m → word_walk m at ≡ finished (word_at m at) (Reads.Direct at)
+  pub word_off : (m : Memory) (at : ℕ) → length m ≤ at → word_walk m at ≡ None
   -- a pointer's high 7 bits are an entry's number and no boundary: "the map word is at 512·m+256+2n"
   pub pointer : (w : ℕ) → pointed_at w ≡ 512 * low9 w + 256 + 2 * high7 w
   -- the word that a pointer leads to is the map word, "never a pointer again"
   pub pointed :
       (m : Memory) (from : ℕ) → from < length m → pointed_at (word_at m from) < length m
-      → pointer_walk m from ≡ Walk.Finished (word_at m (pointed_at (word_at m from))) (Reads.Pointed from (pointed_at (word_at m from)))
-  pub pointed_off : (m : Memory) (from : ℕ) → from < length m → length m ≤ pointed_at (word_at m from) → pointer_walk m from ≡ Walk.Off
-  pub pointer_off : (m : Memory) (from : ℕ) → length m ≤ from → pointer_walk m from ≡ Walk.Off
+      → pointer_walk m from ≡ finished (word_at m (pointed_at (word_at m from))) (Reads.Pointed from (pointed_at (word_at m from)))
+  pub pointed_off : (m : Memory) (from : ℕ) → from < length m → length m ≤ pointed_at (word_at m from) → pointer_walk m from ≡ None
+  pub pointer_off : (m : Memory) (from : ℕ) → length m ≤ from → pointer_walk m from ≡ None
 
 -- Proofs -----------------------------------------------------------------------------------------------------------------
 
@@ -91,13 +92,13 @@ walks_by_boundary =
       user_shared = λ m r p h. pick-false (simple r.ktum p) _ _ (beyond r.ktum p h);
     }
 
-is_there : (m : Memory) (at : ℕ) (w : Walk) → at < length m → unless_off m at w ≡ w
+is_there : (m : Memory) (at : ℕ) (w : Option Walked) → at < length m → unless_off m at w ≡ w
 unfolding unless_off
-is_there m at w h = pick_true (ltb at (length m)) w Walk.Off (lt-ltb at (length m) h)
+is_there m at w h = pick_true (ltb at (length m)) w None (lt-ltb at (length m) h)
 
-is_off : (m : Memory) (at : ℕ) (w : Walk) → length m ≤ at → unless_off m at w ≡ Walk.Off
+is_off : (m : Memory) (at : ℕ) (w : Option Walked) → length m ≤ at → unless_off m at w ≡ None
 unfolding unless_off
-is_off m at w h = pick-false (ltb at (length m)) w Walk.Off (le-ltb at (length m) h)
+is_off m at w h = pick-false (ltb at (length m)) w None (le-ltb at (length m) h)
 
 pub words_read : WordsRead
 unfolding word_walk pointer_walk followed pointed_at upper_at

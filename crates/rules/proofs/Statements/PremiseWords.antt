@@ -6,7 +6,8 @@ use mathlib.Core.List.{List, [], ◌++◌}
 use Prim.Native.Nat.{ℕ, ◌<◌}
 use lib.Dec.{ltb}
 use lib.ListN.{length}
-use Rattle.rules.specs.Types.{Size, Cells, Unit, Access, Call, Operating, Associative, Register, Target, Place, Fault, Answer, Physical}
+use Rattle.std.specs.Prelude.{Option, Some, None}
+use Rattle.rules.specs.Types.{Size, Cells, Unit, Access, Call, Operating, Associative, Register, Target, Place, Fault, Answer}
 use Rattle.rules.specs.Memory.{Memory}
 use Rattle.rules.specs.Maps.{page_of}
 use Rattle.rules.specs.Registers.{place_of}
@@ -42,9 +43,9 @@ place_in_cells op (Place.There t) = target_in_cells op t
 place_in_cells op Place.Window = false
 place_in_cells op Place.Nowhere = false
 
-abbrev pub place_at : Memory → Size → Physical → Place
-place_at m s (Physical.At at) = place_of s (length m) at
-place_at m s Physical.Nowhere = Place.Nowhere
+abbrev pub place_at : Memory → Size → Option ℕ → Place
+place_at m s (Some at) = place_of s (length m) at
+place_at m s None = Place.Nowhere
 
 abbrev pub ReachesByAnswer : Type 0
 ReachesByAnswer =

@@ -6,7 +6,8 @@ use mathlib.Core.Path.{◌≡◌}
 use mathlib.Core.Logic.{◌≢◌}
 use lib.Dec.{eqb, ltb}
 use lib.ListN.{length, get_or}
-use Rattle.rules.specs.Types.{Core, Cells, Unit, Access, Call, Operating, Associative, Register, Target, Place, Entry, Due, Fault, Ruling, Answer, Effect, Job, Ran}
+use Rattle.std.specs.Prelude.{Result, Ok, Err}
+use Rattle.rules.specs.Types.{Core, Cells, Unit, Access, Call, Operating, Associative, Register, Target, Place, Entry, Due, Fault, Answer, Effect, Job, Ran}
 use Rattle.rules.specs.Memory.{Memory, store_word, store_byte}
 use Rattle.rules.specs.Unit.{with_fetch, init_core}
 use Rattle.rules.specs.Registers.{ktpc, ktps, place_of, part_of, merged}
@@ -39,18 +40,18 @@ hidden watched w = watched && not (public_bit w)
 
 -- Steps 6 to 9 of an entry: one way for each step that refuses, and two to pass. An access is watched that step 9 asks about; a window's
 -- inner one is not, "with no privacy step".
-pub data Keys (op : ℕ) (watched : Bool) : Entry → Ruling → Type 0 where
-  off-map : Keys op watched Entry.OffMap (Ruling.Refused Fault.NoMapWord)
-  not_resident : {w : ℕ} → resident_bit w ≡ false → Keys op watched (Entry.Mapped w) (Ruling.Refused Fault.NotResident)
+pub data Keys (op : ℕ) (watched : Bool) : Entry → Result ℕ Fault → Type 0 where
+  off-map : Keys op watched Entry.OffMap (Err Fault.NoMapWord)
+  not_resident : {w : ℕ} → resident_bit w ≡ false → Keys op watched (Entry.Mapped w) (Err Fault.NotResident)
   not_writable :
-      {w : ℕ} → resident_bit w ≡ true → locked op w ≡ true → Keys op watched (Entry.Mapped w) (Ruling.Refused Fault.NotWritable)
+      {w : ℕ} → resident_bit w ≡ true → locked op w ≡ true → Keys op watched (Entry.Mapped w) (Err Fault.NotWritable)
   not_public :
       {w : ℕ} → resident_bit w ≡ true → locked op w ≡ false → hidden watched w ≡ true
-      → Keys op watched (Entry.Mapped w) (Ruling.Refused Fault.NotPublic)
+      → Keys op watched (Entry.Mapped w) (Err Fault.NotPublic)
   granted :
       {w : ℕ} → resident_bit w ≡ true → locked op w ≡ false → hidden watched w ≡ false
-      → Keys op watched (Entry.Mapped w) (Ruling.Granted (low9 w))
-  at_exec_zero : {page : ℕ} → Keys op watched (Entry.ExecZero page) (Ruling.Granted page)
+      → Keys op watched (Entry.Mapped w) (Ok (low9 w))
+  at_exec_zero : {page : ℕ} → Keys op watched (Entry.ExecZero page) (Ok page)
 
 -- How a call ends --------------------------------------------------------------------------------------------------------
 
@@ -99,7 +100,7 @@ module _ (m : Memory) (u : Unit) (q : Access) where
   -- steps 6 to 9 passed, and gave this physical page
   pub record Granted (page : ℕ) : Type 0 where
     pub steps : Asked
-    pub keys : Keys q.op (watches (job u q).core.fetch q) (outer m u q).entry (Ruling.Granted page)
+    pub keys : Keys q.op (watches (job u q).core.fetch q) (outer m u q).entry (Ok page)
 
   -- step 10 passed
   pub record PagedThere (page : ℕ) (t : Target) : Type 0 where
@@ -121,7 +122,7 @@ module _ (m : Memory) (u : Unit) (q : Access) where
   -- steps 6 to 8 passed again
   pub record InnerGranted (page : ℕ) : Type 0 where
     pub steps : InnerAsked
-    pub keys : Keys q.op false (inner m u q).entry (Ruling.Granted page)
+    pub keys : Keys q.op false (inner m u q).entry (Ok page)
 
   -- step 10 passed again
   pub record InnerThere (page : ℕ) (t : Target) : Type 0 where
@@ -135,7 +136,7 @@ module _ (m : Memory) (u : Unit) (q : Access) where
     odd : Paged m u q → odd_word q.width q.addr ≡ true → AtFault Fault.OddAddress false (outer_tag u q) u.cells
     -- "6. Walk (9).", where "10 takes 9's place" (T-01), "7. Residency (5). 8. Write key for operations 1-3 (6). 9. Privacy (7)."
     keys_refuse :
-        {f : Fault} → Asked → Keys q.op (watches (job u q).core.fetch q) (outer m u q).entry (Ruling.Refused f)
+        {f : Fault} → Asked → Keys q.op (watches (job u q).core.fetch q) (outer m u q).entry (Err f)
         → AtFault f false (outer_tag u q) (outer m u q).cells
     -- "10. Target at or beyond L and not a register above (9)."; the window "by fetch ..: time-out at step 10"
     nowhere :
@@ -154,7 +155,7 @@ module _ (m : Memory) (u : Unit) (q : Access) where
     inner-odd :
         Windowed → odd_word q.width (window_addr (job u q)) ≡ true → AtFault Fault.OddAddress true (inner_tag u q) (outer m u q).cells
     inner_keys_refuse :
-        {f : Fault} → InnerAsked → Keys q.op false (inner m u q).entry (Ruling.Refused f)
+        {f : Fault} → InnerAsked → Keys q.op false (inner m u q).entry (Err f)
         → AtFault f true (inner_tag u q) (inner m u q).cells
     inner-nowhere :
         {page : ℕ} → InnerGranted page → place_of u.cells.size (length m) (inner_at u q page) ≡ Place.Nowhere

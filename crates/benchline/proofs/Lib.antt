@@ -1,0 +1,2 @@
+-- Laws that the proof of a line cites.
+pub mod Calls
