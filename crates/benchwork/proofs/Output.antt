@@ -7,7 +7,7 @@ use native.Mathlib.Omega.{arith}
 use lib.ListN.{length, length-append}
 use lib.Dec.{eqb, ltb}
 use borrow.Author.Tests.{ne_eqb}
-use Rattle.std.specs.Prelude.{Some, None}
+use Rattle.std.specs.Prelude.{Ok, Err}
 use Rattle.rules.specs.declared.Size.{Size}
 use Rattle.rules.specs.Choice.{pick}
 use Rattle.rules.specs.Memory.{Memory}
@@ -33,11 +33,11 @@ push_last g (b ∷ p) x = push_last (push_of g b) p x
 -- is not empty
 push_some : (g : Gathered) (x : ℕ) → is_nothing (push_of g x) ≡ false
 unfolding push_of is_nothing
-push_some (Some s) x =
+push_some (Ok s) x =
     picked (λ (h : Gathered). is_nothing h ≡ false) (ltb (length s) 40) _ _
     (λ e. let longer = length-append s (x ∷ []) in ne_eqb (length (s ++ x ∷ [])) 0 (λ z. omega arith))
     (λ e. refl)
-push_some None x = refl
+push_some (Err s) x = refl
 
 -- and stays so
 some_stays : (g : Gathered) (s : List ℕ) → is_nothing g ≡ false → is_nothing (push_all g s) ≡ false

@@ -10,7 +10,7 @@ use rules::Size;
 use tally::Bench;
 
 // The bench amid its input: the bytes of a line are gathered until the line ends.
-#[derive(Clone, Drop)]
+#[derive(Clone, Copy)]
 pub struct Progress {
     pub bench: Bench,
     pub gather: Gather,
@@ -55,7 +55,7 @@ impl Progress {
         ensures { result ≡ ended m.old self }
     {
         match self.gather.bytes() {
-            Some([]) => Text::new(),
+            Ok([]) => Text::new(),
             _ => benchline::line(&mut self.bench, m, self.gather.line()),
         }
     }

@@ -5,21 +5,30 @@ ghost use Rattle.std.specs.Prelude.{◌≡◌, ◌<◌, ◌≤◌, ◌++◌, ◌
 
 use std::marker::Model;
 
-// The first `len` of `room`. It is here alone that a length stands beside its room: the crates are written over std alone, which has no such value.
-#[derive(Clone, Drop)]
+// The first `len` of `room`; the places past them are 0, so that the bytes say all of the value and it can be copied. It is here alone that a length
+// stands beside its room: the crates are written over std alone, which has no such value.
+#[derive(Clone, Copy)]
 pub struct FewBytes<const N: usize> {
     room: [u8; N],
     len: usize,
 }
 
 impl<const N: usize> Model for FewBytes<N> {
-    ghost use Rattle.std.specs.Prelude.{ℕ, ◌≤◌, List, take};
+    ghost use Rattle.std.specs.Prelude.{ℕ, ◌≡◌, ◌-◌, ◌≤◌, ◌++◌, List, length, take, drop, replicate};
+    ghost use Rattle.std.proofs.Common.{sym, ap, ◌∙◌, take-append-drop, length-take-le};
 
     ghost Value = { List ℕ };
 
     ghost view = { λ b. take b.len b.room };
 
-    ghost invariant = { λ b. b.len ≤ N };
+    ghost invariant = { λ b. (b.len ≤ length b.room) × (drop b.len b.room ≡ replicate (N - b.len) 0) };
+
+    ghost inverse = { λ s. record { room = s ++ replicate (N - length s) 0; len = length s } };
+
+    ghost inverse_ok = { λ b h i. record {
+      room = (ap (λ (k : ℕ). take b.len b.room ++ replicate (N - k) 0) (length-take-le b.len b.room h.0) ∙ ap (λ (past : List ℕ). take b.len b.room ++ past) (sym h.1) ∙ take-append-drop b.len b.room) i;
+      len = length-take-le b.len b.room h.0 i;
+    } };
 }
 
 impl<const N: usize> FewBytes<N> {

@@ -4,16 +4,17 @@ use mathlib.Core.Path.{◌≡◌, refl, ap, sym, ◌∙◌}
 use mathlib.Core.Bool.{Bool, true, false, ◌&&◌}
 use mathlib.Core.List.{List, [], ◌∷◌, ◌++◌, append-nil, append_assoc}
 use native.Mathlib.Omega.{arith}
-use lib.ListN.{length, get_or, drop, length-append}
+use lib.ListN.{length, get_or, take, drop, length-append}
 use lib.Dec.{ltb, eqb}
 use borrow.Author.Tests.{ltb-true, ltb-false, eqb-true}
-use Rattle.std.specs.Prelude.{Some, None}
+use Rattle.std.specs.Prelude.{None, Ok, Err}
 use Rattle.rules.specs.Choice.{pick}
 use Rattle.rules.proofs.Laws.Choices.{pick_same, picked}
 use Rattle.fieldtext.specs.Cut.{onto, fields, head_of}
 use Rattle.fieldtext.specs.Number.{all_digits, are_digits, worth, is_number, all_numbers, numbers}
 use Rattle.fieldtext.proofs.Scan.{fields_split}
 use Rattle.std.proofs.lemmas.Bool.{and_parts}
+use Rattle.std.proofs.lemmas.List.{take_at, take-append-le}
 use Rattle.linetext.specs.Line.{store_of, access_of, trap_of, alone_of, by_letter, by_name, from_fields, line_of}
 use Rattle.gathering.specs.Gather.{Gathered, nothing_yet, push_of, push_all, gathered, line_in}
 
@@ -91,10 +92,10 @@ long_bad s h =
     let all : suc (length name) + total rest ≡ suc (length s) = ap total (sym (fields_split s)) ∙ total_fields s in
     ap from_fields (fields_split s) ∙ name_long name rest (omega arith)
 
--- what a gather holds of the line p that was pushed: all of it, or that it was too long
+-- what a gather holds of the line p that was pushed: all of it, or the first of it, and that it was too long
 data Held (p : List ℕ) : Gathered → Type 0 where
-  kept : length p ≤ 40 → Held p (Some p)
-  lost : 40 < length p → Held p None
+  kept : length p ≤ 40 → Held p (Ok p)
+  lost : (s : List ℕ) → s ≡ take 40 p → 40 < length p → Held p (Err s)
 
 held_push : (p : List ℕ) (g : Gathered) (b : ℕ) → Held p g → Held (p ++ b ∷ []) (push_of g b)
 unfolding push_of
@@ -102,8 +103,10 @@ held_push p _ b (kept h) =
     let longer = length-append p (b ∷ []) in
     picked (Held (p ++ b ∷ [])) (ltb (length p) 40) _ _
     (λ e. kept (omega (arith, ltb-true (length p) 40 e)))
-    (λ e. lost (omega (arith, ltb-false (length p) 40 e)))
-held_push p _ b (lost h) = let longer = length-append p (b ∷ []) in lost (omega arith)
+    (λ e. lost p (sym (take_at p (b ∷ []) 40 (omega (arith, ltb-false (length p) 40 e)))) (omega (arith, ltb-false (length p) 40 e)))
+held_push p _ b (lost s f h) =
+    let longer = length-append p (b ∷ []) in
+    lost s (f ∙ sym (take-append-le 40 p (b ∷ []) (omega arith))) (omega arith)
 
 held_all : (s p : List ℕ) (g : Gathered) → Held p g → Held (p ++ s) (push_all g s)
 unfolding push_all
@@ -114,7 +117,7 @@ held_all (b ∷ s) p g h = rw append_assoc at (held_all s (p ++ b ∷ []) (push_
 held_line : (p : List ℕ) (g : Gathered) → Held p g → line_in g ≡ line_of p
 unfolding line_in
 held_line p _ (kept h) = refl
-held_line p _ (lost h) = sym (long_bad p (omega arith))
+held_line p _ (lost s f h) = sym (long_bad p (omega arith))
 
 -- whatever the line, what is gathered of it asks for what it asks for
 pub whole : (s : List ℕ) → line_in (gathered s) ≡ line_of s
