@@ -98,10 +98,11 @@ fn cell_forgotten(held: Cell, tag: u16) -> Cell
 pub fn forgotten(k: Cells, tag: u16) -> Cells
     ensures { result ≡ forgotten k tag }
 {
-    Cells {
-        list: k.list.map(|held| cell_forgotten(held, tag)),
-        ..k
+    let mut list = k.list;
+    for held in &mut list {
+        *held = cell_forgotten(*held, tag);
     }
+    Cells { list, ..k }
 }
 
 // "empties all cells and sets the counter to 10o"; how many there are stays.

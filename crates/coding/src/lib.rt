@@ -166,12 +166,14 @@ pub fn decoded(w: &[u16; WORDS]) -> Unit
     }
 }
 
-// The unit that words hold, if they hold one.
+// The unit that words hold, if they hold one. It is written out where it is asked, as `decoded` is, so that a reading of one field decodes no other; by
+// `then` and a closure the compiler decodes all of it.
+#[inline(always)]
 #[tactic(auto, unfolding(crate::specs::Coding::unit_in, rules::specs::Choice::pick))]
 pub fn unit_in(w: &[u16; WORDS]) -> Option<Unit>
     ensures { result ≡ unit_in w.now }
 {
-    is_unit(w).then(|| decoded(w))
+    if is_unit(w) { Some(decoded(w)) } else { None }
 }
 
 // An end, the core and the map registers, in the words before the cells; the others stay. The words' number is their type's, and said for callers.

@@ -22,7 +22,8 @@ fn read<F: FnOnce(Unit) -> Result<u16, Refusal>>(w: &[u16; WORDS], reading: F) -
     replies::read_as(coding::unit_in(w).ok_or(Refusal::NoUnit).and_then(reading))
 }
 
-// A register by its number in the table of addresses: KTMR 1, KTCS 2, and on to KTEM 10.
+// A register by its number in the table of addresses: KTMR 1, KTCS 2, and on to KTEM 10. What is lent lies in memory whole: so here and below the
+// cells are taken out of the unit first, and the rest of it need not be decoded.
 #[tactic(auto, unfolding(crate::specs::Panel::register_read, crate::specs::Panel::register_told, coding::specs::Coding::unit_in, rules::specs::Choice::pick))]
 pub fn register_read(w: &[u16; WORDS], number: usize) -> u64
     ensures { result ≡ register_read w.now number }
@@ -30,7 +31,8 @@ pub fn register_read(w: &[u16; WORDS], number: usize) -> u64
     read(w, |u| match number {
         1..=10 => {
             let g = registers::register_of(number - 1);
-            Ok(transfer::word_in(u.core, u.maps, &u.cells, g))
+            let k = u.cells;
+            Ok(transfer::word_in(u.core, u.maps, &k, g))
         }
         _ => Err(Refusal::Misshapen),
     })
@@ -60,14 +62,20 @@ fn cell_in(k: &Cells, index: usize) -> Result<Cell, Refusal>
 pub fn tag_read(w: &[u16; WORDS], index: usize) -> u64
     ensures { result ≡ tag_read w.now index }
 {
-    read(w, |u| Ok(cell_in(&u.cells, index)?.tag))
+    read(w, |u| {
+        let k = u.cells;
+        Ok(cell_in(&k, index)?.tag)
+    })
 }
 
 #[tactic(auto, unfolding(crate::specs::Panel::cell_read, coding::specs::Coding::unit_in, rules::specs::Choice::pick))]
 pub fn word_read(w: &[u16; WORDS], index: usize) -> u64
     ensures { result ≡ word_read w.now index }
 {
-    read(w, |u| Ok(cell_in(&u.cells, index)?.word))
+    read(w, |u| {
+        let k = u.cells;
+        Ok(cell_in(&k, index)?.word)
+    })
 }
 
 #[tactic(auto, unfolding(crate::specs::Panel::counter_read, coding::specs::Coding::unit_in, rules::specs::Choice::pick))]

@@ -112,14 +112,18 @@ pub fn stored<T: Copy, const N: usize>(mut list: [T; N], i: usize, v: T) -> [T; 
     list
 }
 
-// What a read of a register gives that the core or the map registers answer for.
+// What a read of a register gives that the core or the map registers answer for. The registers that only remember are taken out of the core, so that
+// the rest of it need not lie in memory.
 #[tactic(auto, unfolding(rules::specs::Registers::operating_word))]
 pub fn operating_word(c: Core, r: Maps, g: Operating) -> u16
     ensures { result ≡ operating_word c r g }
 {
     match g {
         Operating::Ktcs => status::packed(c.ktcs),
-        Operating::Kept(i) => kept_word(&c.kept, i),
+        Operating::Kept(i) => {
+            let kept = c.kept;
+            kept_word(&kept, i)
+        }
         Operating::Ktum => r.ktum,
         Operating::Ktem => r.ktem,
     }

@@ -1,35 +1,28 @@
--- Each cell of the new list is what forgetting makes of the one at its place.
-use Rattle.std.proofs.Common.{◌≡◌, subst, ℕ, zero, suc, ◌+◌, ◌≤◌, List, map, length, drop, arith, rules, tests, add-one, drop-cons}
+-- Each cell of the list is what forgetting makes of the one at its place.
+use Rattle.std.proofs.Common.{◌≡◌, refl, ◌∙◌, ◌<◌, ◌≤◌, length, get_or, map, arith, rules, length-set, append-nil}
 use lib.ListN.{drop_of_length-le}
-use denote.Param.Members.{Mut}
-use Rattle.std.specs.Fn.{Called}
-use Rattle.std.specs.Array.{MapsFrom, IsMapOf}
+use Rattle.std.proofs.lemmas.List.{get_or_default, take_all}
+use Rattle.std.proofs.lemmas.List.Edits.{map_over_more}
 use Rattle.rules.specs.Maps.{cell_forgotten, forgotten}
 use Rattle.cells.proofs.forgotten.Goals as goal
 
--- an array's map by a closure that keeps what it holds, and computes h
-module _ {F A B : Type 0} (g : Mut F (A × Unit {0}) B) (h : A → B) (f : F) where
-  abbrev Computes : Type 0
-  Computes = (x : A) (y : B) (q : F) → Called g f (x, tt) y q → (q ≡ f) × (y ≡ h x)
+pub loop-held-init : goal.loop-held-init
+loop-held-init c = (search rules, refl)
 
-  none_left : (xs : List A) (ys : List B) (i : ℕ) → length xs ≤ i → length ys ≤ i → drop i ys ≡ map h (drop i xs)
-  none_left xs ys i x y = rw (drop_of_length-le ys y, drop_of_length-le xs x)
-
-  mapped :
-      (xs : List A) (ys : List B) (i n : ℕ) → i + n ≡ length xs → i + n ≡ length ys → MapsFrom g f xs ys i n → Computes → drop i ys ≡ map h (drop i xs)
-  mapped xs ys i zero e l m one = none_left xs ys i (omega arith) (omega arith)
-  mapped xs ys i (suc n) e l (q, x, y, at, to, called, more) one =
-      let both = one x y q called in
-      let later : drop (suc i) ys ≡ map h (drop (suc i) xs) =
-      mapped xs ys (suc i) n (omega arith) (omega arith) (subst (λ (p : F). MapsFrom g p xs ys (suc i) n) both.0 (rw add-one at more)) one in
-      rw (drop-cons ys i y (omega arith), drop-cons xs i x (omega arith), to.0, at.0, both.1, later)
-
-  all_mapped : (xs : List A) (ys : List B) (n : ℕ) → IsMapOf g f xs ys n → n ≡ length xs → Computes → ys ≡ map h xs
-  all_mapped xs ys n m e one = mapped xs ys 0 n (omega arith) (omega arith) m.each one
+pub loop-held-preserved : goal.loop-held-preserved
+loop-held-preserved c =
+    let items = c.loop-held.held-items in
+    let i = c.loop-held.held-index in
+    let held = get_or items i (record { tag = 0; word = 0 }) in
+    let inv = c.loop-held.invariant in
+    let inside : i < length c.args.k.list = search rules in
+    let written = map_over_more (cell_forgotten c.args.tag) c.args.k.list items i held inside inv.0 (get_or_default items i _ held (omega (arith, inv.1, inside))) in
+    (search (rules, written), length-set items i _ ∙ inv.1)
 
 pub returns : goal.returns
 unfolding forgotten
 returns c =
-    let each : c.map.result ≡ map (cell_forgotten c.args.tag) c.args.k.list =
-    all_mapped _ (cell_forgotten c.args.tag) _ _ _ _ c.map.ensures.items (search rules) (λ x y q k. search (rules, tests)) in
+    let past : length c.args.k.list ≤ c.loop-held.held-index = omega (arith, c.loop-held.invariant.1, c.loop-held-test.array_long, c.loop-held-test.false) in
+    let each : c.loop-held.held-items ≡ map (cell_forgotten c.args.tag) c.args.k.list =
+    rw (take_all _ c.args.k.list past) at (rw (drop_of_length-le c.args.k.list past, append-nil) at c.loop-held.invariant.0) in
     rw each
