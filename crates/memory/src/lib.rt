@@ -68,6 +68,6 @@ pub fn map_page(m: &[u8], register: u16) -> &[u8]
     let end = at + 512;
     match m.get(at..end) {
         Some(page) => page,
-        None => &[],
+        None => &m[..0],
     }
 }
