@@ -2,3 +2,4 @@
 pub mod Scan
 pub mod Digits
 pub mod Chain
+pub mod Places
