@@ -23,7 +23,7 @@ fn word_read(m: &[u8], at: usize, reads: Reads) -> Option<Walked>
 }
 
 // A map word that stands at a place.
-#[tactic(auto, unfolding(rules::specs::Maps::word_walk))]
+#[tactic(auto, unfolding(rules::specs::Maps::word_walk, rules::specs::Maps::unless_off, rules::specs::Choice::pick))]
 fn word_walk(m: &[u8], at: usize) -> Option<Walked>
     ensures { result ≡ word_walk m.now at }
 {
@@ -31,7 +31,7 @@ fn word_walk(m: &[u8], at: usize) -> Option<Walked>
 }
 
 // The map word that a pointer leads to, which "is never a pointer again".
-#[tactic(auto, unfolding(rules::specs::Maps::followed))]
+#[tactic(auto, unfolding(rules::specs::Maps::followed, rules::specs::Maps::unless_off, rules::specs::Choice::pick))]
 fn followed(m: &[u8], from: usize, to: usize) -> Option<Walked>
     ensures { result ≡ followed m.now from to }
 {

@@ -1,5 +1,5 @@
 -- The laws of one field more.
-use Rattle.std.proofs.Common.{◌∙◌, sym, length-set}
+use Rattle.std.proofs.Common.{◌∙◌, sym, length-set, rules}
 use Rattle.std.proofs.lemmas.List.{length-replicate}
 use Rattle.std.proofs.Math.Nat.{sub-zero}
 use Rattle.fieldtext.proofs.Chain.{numbers_start, no_field, at_end, no_number, one_number}
@@ -16,7 +16,7 @@ returns-in_err-next g c fs y =
 pub returns-in_err-word : goal.returns-in_err-word
 returns-in_err-word g c fs y =
     let h = c.loop-word.invariant.2 fs y in
-    c.from_residual-in_err-word.ensures ∙ sym (h.2 ∙ no_number g.I.Iterator.next_gives _ _ h.0 h.1 c.in_ok-next.field-0 c.in_ok-next.ensures.steps _ _ _ c.loop-word-test.true c.in_err-word.ensures)
+    c.from_residual-in_err-word.ensures ∙ sym (h.2 ∙ no_number g.I.Iterator.next_gives _ _ h.0 h.1 c.in_ok-next.field-0 c.in_ok-next.ensures.steps _ _ _ c.loop-word-test.true (search rules))
 
 pub loop-word-preserved : goal.loop-word-preserved
 loop-word-preserved g c = (
@@ -24,7 +24,7 @@ loop-word-preserved g c = (
   length-set c.loop-word.word-items c.loop-word.word-index _ ∙ c.loop-word.invariant.1,
   λ fs y.
       let h = c.loop-word.invariant.2 fs y in
-      let m = one_number g.I.Iterator.next_gives _ _ h.0 h.1 c.in_ok-next.field-0 c.in_ok-next.ensures.steps c.loop-word.word-items g.row.N c.loop-word.word-index c.in_ok-word.field-0 c.loop-word-test.true c.loop-word.invariant.1 c.in_ok-word.ensures in
+      let m = one_number g.I.Iterator.next_gives _ _ h.0 h.1 c.in_ok-next.field-0 c.in_ok-next.ensures.steps c.loop-word.word-items g.row.N c.loop-word.word-index c.in_ok-word.field-0 c.loop-word-test.true c.loop-word.invariant.1 (search rules) in
       (m.0, m.1, h.2 ∙ m.2),
 )
 
