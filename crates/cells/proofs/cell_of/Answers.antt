@@ -8,6 +8,7 @@ use Rattle.cells.proofs.Laws.{sought_from, none_yet, all_left, still_split, matc
 use Rattle.cells.proofs.cell_of.Goals as goal
 
 pub loop-i-init : goal.loop-i-init
+unfolding there
 loop-i-init c =
     let whole : c.into_iter-i-iterator.result.iter.iter.rest.now ≡ there c.args.k.now = search (rules, take_all) in
     record { gathered = none_yet _ _ c.args.tag whole; left = all_left _ _ c.args.tag whole; counted = cc }
