@@ -1,2 +1,2 @@
--- Laws that several proofs cite.
+-- What is proved of lists of bytes.
 pub mod Room

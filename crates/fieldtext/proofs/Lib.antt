@@ -1,4 +1,4 @@
--- Laws that several proofs cite.
+-- Laws that several proofs cite, and those that docs/DESIGN-PASS.md names.
 pub mod Scan
 pub mod Digits
 pub mod Chain

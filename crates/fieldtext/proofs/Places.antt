@@ -24,7 +24,7 @@ fields_placed (b ∷ s) = by (eqb b 9) (fields_placed s)
     by false e = simp (e, leb-suc-suc (suc (length s)) (suc (length (head_of s))))
 
 -- two tests that hold together are one Bool
-same_test : (a b c d : ℕ) → (a < b → c < d) → (b ≤ a → d ≤ c) → ltb a b ≡ ltb c d
+pub same_test : (a b c d : ℕ) → (a < b → c < d) → (b ≤ a → d ≤ c) → ltb a b ≡ ltb c d
 same_test a b c d f g = go (ltb a b) refl
   where
     go : (t : Bool) → ltb a b ≡ t → t ≡ ltb c d

@@ -1,3 +1,4 @@
+-- A byte more leaves the room 0 past the bytes.
 use native.Mathlib.Omega.{arith}
 use Rattle.std.proofs.Common.{length-set}
 use Rattle.fewbytes.proofs.FewBytes.push.Goals as goal
