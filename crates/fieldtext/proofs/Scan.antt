@@ -1,6 +1,6 @@
 -- The laws of a line's fields: the cut at each tab is the library's, and the first field is what stands before the first tab.
 use Prim.Native.Nat.{ℕ, suc, ◌+◌, ◌≤◌}
-use mathlib.Core.Path.{◌≡◌, refl}
+use mathlib.Core.Path.{◌≡◌, refl, ap, sym, ◌∙◌}
 use mathlib.Core.Bool.{Bool, true, false, cond}
 use mathlib.Core.List.{List, [], ◌∷◌}
 use native.Mathlib.Omega.{arith}
@@ -23,17 +23,11 @@ use Rattle.std.proofs.lemmas.Iterator.Splits.{YieldsList-from_slice_split}
 use Rattle.std.specs.List.{slice_split, onto_first, position_or_len}
 use Rattle.std.proofs.lemmas.List.Recursion.{is_position_or_len}
 use Rattle.fieldtext.specs.Cut.{onto, fields, head_of}
+use Rattle.fieldtext.proofs.Places.{fields_placed}
 
 -- a line is its first field, and the fields past it
 pub fields_split : (s : List ℕ) → fields s ≡ head_of s ∷ drop 1 (fields s)
-unfolding fields head_of onto pick
-fields_split [] = refl
-fields_split (b ∷ s) = split (eqb b 9) (fields s) (fields_split s)
-  where
-    split : (t : Bool) (fs : List (List ℕ)) → fs ≡ head_of s ∷ drop 1 fs
-        → pick t ([] ∷ fs) (onto b fs) ≡ pick t [] (b ∷ head_of s) ∷ drop 1 (pick t ([] ∷ fs) (onto b fs))
-    split true fs e = refl
-    split false fs e = rw e refl
+fields_split s = fields_placed s ∙ ap (λ (fs : List (List ℕ)). head_of s ∷ fs) (sym (ap (drop 1) (fields_placed s)))
 
 -- the first field is no longer than the line
 pub head_bound : (s : List ℕ) → length (head_of s) ≤ length s

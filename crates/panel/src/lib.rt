@@ -22,8 +22,8 @@ fn read<F: FnOnce(Unit) -> Result<u16, Refusal>>(w: &[u16; WORDS], reading: F) -
     replies::read_as(coding::unit_in(w).ok_or(Refusal::NoUnit).and_then(reading))
 }
 
-// A register by its number in the table of addresses: KTMR 1, KTCS 2, and on to KTEM 10. What is lent lies in memory whole: so here and below the
-// cells are taken out of the unit first, and the rest of it need not be decoded.
+// A register by its number in the table of addresses: KTMR 1, KTCS 2, and on to KTEM 10. What is lent lies in memory whole: so the cells are taken
+// out of the unit first, here and by `cell_in`, and the rest of it need not be decoded.
 #[tactic(auto, unfolding(crate::specs::Panel::register_read, crate::specs::Panel::register_told, coding::specs::Coding::unit_in, rules::specs::Choice::pick))]
 pub fn register_read(w: &[u16; WORDS], number: usize) -> u64
     ensures { result ≡ register_read w.now number }
@@ -48,11 +48,11 @@ pub fn count_read(w: &[u16; WORDS]) -> u64
 
 // The cell at this place, if the unit has such a cell.
 #[tactic(auto, unfolding(rules::specs::Unit::there, rules::specs::Choice::pick))]
-fn cell_in(k: &Cells, index: usize) -> Result<Cell, Refusal>
-    ensures { result ≡ cell_in k.now index }
+fn cell_in(k: Cells, index: usize) -> Result<Cell, Refusal>
+    ensures { result ≡ cell_in k index }
 {
     if index < sizes::count_of(k.size) {
-        Ok(cells::cell_at(k, index))
+        Ok(cells::cell_at(&k, index))
     } else {
         Err(Refusal::Misshapen)
     }
@@ -62,20 +62,14 @@ fn cell_in(k: &Cells, index: usize) -> Result<Cell, Refusal>
 pub fn tag_read(w: &[u16; WORDS], index: usize) -> u64
     ensures { result ≡ tag_read w.now index }
 {
-    read(w, |u| {
-        let k = u.cells;
-        Ok(cell_in(&k, index)?.tag)
-    })
+    read(w, |u| Ok(cell_in(u.cells, index)?.tag))
 }
 
 #[tactic(auto, unfolding(crate::specs::Panel::cell_read, coding::specs::Coding::unit_in, rules::specs::Choice::pick))]
 pub fn word_read(w: &[u16; WORDS], index: usize) -> u64
     ensures { result ≡ word_read w.now index }
 {
-    read(w, |u| {
-        let k = u.cells;
-        Ok(cell_in(&k, index)?.word)
-    })
+    read(w, |u| Ok(cell_in(u.cells, index)?.word))
 }
 
 #[tactic(auto, unfolding(crate::specs::Panel::counter_read, coding::specs::Coding::unit_in, rules::specs::Choice::pick))]

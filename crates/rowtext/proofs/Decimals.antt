@@ -12,7 +12,7 @@ use Rattle.rules.specs.Choice.{pick}
 use Rattle.rowtext.specs.Digits.{decimals, decimal}
 
 -- the bound of a decimal number does not matter
-same_decimals : (f g n : ℕ) → n < f → n < g → decimals f n ≡ decimals g n
+pub same_decimals : (f g n : ℕ) → n < f → n < g → decimals f n ≡ decimals g n
 unfolding decimals pick
 same_decimals zero g n h k = let z : ⊥ = omega arith in absurd z
 same_decimals (suc f) zero n h k = let z : ⊥ = omega arith in absurd z
@@ -25,9 +25,9 @@ same_decimals (suc f) (suc g) n h k = by (ltb n 10) refl (same_decimals f g (n /
         let m = ltb-false n 10 e in
         ap (λ (l : List ℕ). l ++ (48 + n % 10) ∷ []) (less (omega arith) (omega arith))
 
-pub decimal_last : (n : ℕ) → n < 10 → decimal n ≡ (48 + n) ∷ []
+pub decimal_one : (n : ℕ) → n < 10 → decimal n ≡ (48 + n) ∷ []
 unfolding decimal decimals pick
-decimal_last n h = simp (lt-ltb n 10 h)
+decimal_one n h = simp (lt-ltb n 10 h)
 
 pub decimal_steps : (n : ℕ) → 9 < n → decimal n ≡ decimal (n / 10) ++ (48 + n % 10) ∷ []
 unfolding decimal decimals pick
@@ -36,11 +36,11 @@ decimal_steps n h =
 
 -- a number below 10 ^ (k + 1) has at most k + 1 digits, and every number has one
 pub decimal_bound : (k n : ℕ) → n < 10 ^ suc k → length (decimal n) ≤ suc k
-decimal_bound zero n h = omega (arith, ap length (decimal_last n h))
+decimal_bound zero n h = omega (arith, ap length (decimal_one n h))
 decimal_bound (suc k) n h = by (ltb n 10) refl (decimal_bound k (n / 10) (omega (arith, pow-suc 10 (suc k))))
   where
     by : (t : Bool) → ltb n 10 ≡ t → length (decimal (n / 10)) ≤ suc k → length (decimal n) ≤ suc (suc k)
-    by true e i = omega (arith, ap length (decimal_last n (ltb-true n 10 e)))
+    by true e i = omega (arith, ap length (decimal_one n (ltb-true n 10 e)))
     by false e i =
         let l : length (decimal n) ≡ length (decimal (n / 10)) + 1 = ap length (decimal_steps n (ltb-false n 10 e)) ∙ length-append (decimal (n / 10)) ((48 + n % 10) ∷ []) in
         omega arith
@@ -49,5 +49,5 @@ pub decimal_some : (n : ℕ) → 0 < length (decimal n)
 decimal_some n = by (ltb n 10) refl
   where
     by : (t : Bool) → ltb n 10 ≡ t → 0 < length (decimal n)
-    by true e = omega (arith, ap length (decimal_last n (ltb-true n 10 e)))
+    by true e = omega (arith, ap length (decimal_one n (ltb-true n 10 e)))
     by false e = omega (arith, ap length (decimal_steps n (ltb-false n 10 e)) ∙ length-append (decimal (n / 10)) ((48 + n % 10) ∷ []))

@@ -35,7 +35,7 @@ fn push_octal(text: &mut Text, n: u32)
 }
 
 // All decimal digits of n: as many as it has, where `push_octals` writes as many as it is asked for, zeros in front.
-#[tactic(auto, using(crate::proofs::Figures::decimal_one, crate::proofs::Figures::decimal_more, crate::proofs::Figures::decimal_length_more, crate::proofs::Figures::decimal_leaves))]
+#[tactic(auto, using(crate::proofs::Decimals::decimal_one, crate::proofs::Figures::decimal_more, crate::proofs::Figures::decimal_length_more, crate::proofs::Figures::decimal_leaves))]
 fn push_decimals(text: &mut Text, n: u64)
     requires { length text.old + length (decimal n) ≤ 64 }
     ensures { text.new ≡ text.old ++ decimal n }
