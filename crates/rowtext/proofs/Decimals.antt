@@ -1,6 +1,6 @@
--- The decimal digits of any number, however large: one of them taken off the end, and how many there are.
+-- The decimal digits of any number, however large: one of them taken off the end, and how many there are. Below 2 ^ 64 the library prints the same.
 use Prim.Native.Nat.{ℕ, zero, suc, ◌+◌, ◌/◌, ◌%◌, ◌^◌, ◌≤◌, ◌<◌}
-use mathlib.Core.Path.{◌≡◌, refl, ap, ◌∙◌}
+use mathlib.Core.Path.{◌≡◌, refl, ap, sym, ◌∙◌}
 use mathlib.Core.Bool.{Bool, true, false}
 use mathlib.Core.List.{List, [], ◌∷◌, ◌++◌}
 use native.Mathlib.Nat.{pow-suc}
@@ -9,6 +9,8 @@ use lib.ListN.{length, length-append}
 use lib.Dec.{ltb}
 use borrow.Author.Tests.{lt-ltb, le-ltb, ltb-true, ltb-false}
 use Rattle.rules.specs.Choice.{pick}
+use Rattle.std.specs.Fmt.{decimal as library_decimal}
+use Rattle.std.proofs.lemmas.Fmt.{AppendsLastDigit, decimal_from_appends, length-decimal-le_succ}
 use Rattle.rowtext.specs.Digits.{decimals, decimal}
 
 -- the bound of a decimal number does not matter
@@ -51,3 +53,15 @@ decimal_some n = by (ltb n 10) refl
     by : (t : Bool) → ltb n 10 ≡ t → 0 < length (decimal n)
     by true e = omega (arith, ap length (decimal_one n (ltb-true n 10 e)))
     by false e = omega (arith, ap length (decimal_steps n (ltb-false n 10 e)) ∙ length-append (decimal (n / 10)) ((48 + n % 10) ∷ []))
+
+-- the library's digits, which it has of the numbers below 2 ^ 64, are these
+last_digit_at_the_end : AppendsLastDigit decimals
+unfolding decimals pick
+last_digit_at_the_end = record {
+  one = λ k n h. simp (lt-ltb n 10 h);
+  more = λ k n h. simp (le-ltb n 10 h);
+}
+
+pub same_decimal : (n : ℕ) → n < 2 ^ 64 → library_decimal n ≡ decimal n
+unfolding decimal
+same_decimal n h = sym (decimal_from_appends decimals last_digit_at_the_end (suc n) n h (omega (arith, length-decimal-le_succ n h)))
