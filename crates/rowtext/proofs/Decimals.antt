@@ -13,28 +13,36 @@ use Rattle.std.specs.Fmt.{decimal as library_decimal}
 use Rattle.std.proofs.lemmas.Fmt.{AppendsLastDigit, decimal_from_appends, length-decimal-le_succ}
 use Rattle.rowtext.specs.Digits.{decimals, decimal}
 
+-- one digit, and one more: by these alone the other laws go, and std's too
+last_digit_at_the_end : AppendsLastDigit decimals
+unfolding decimals pick
+last_digit_at_the_end = record {
+  one = λ k n h. simp (lt-ltb n 10 h);
+  more = λ k n h. simp (le-ltb n 10 h);
+}
+
 -- the bound of a decimal number does not matter
 pub same_decimals : (f g n : ℕ) → n < f → n < g → decimals f n ≡ decimals g n
-unfolding decimals pick
 same_decimals zero g n h k = let z : ⊥ = omega arith in absurd z
 same_decimals (suc f) zero n h k = let z : ⊥ = omega arith in absurd z
 same_decimals (suc f) (suc g) n h k = by (ltb n 10) refl (same_decimals f g (n / 10))
   where
-    by : (t : Bool) → ltb n 10 ≡ t → (n / 10 < f → n / 10 < g → decimals f (n / 10) ≡ decimals g (n / 10))
-        → pick t ((48 + n) ∷ []) (decimals f (n / 10) ++ (48 + n % 10) ∷ []) ≡ pick t ((48 + n) ∷ []) (decimals g (n / 10) ++ (48 + n % 10) ∷ [])
-    by true e less = refl
+    by : (t : Bool) → ltb n 10 ≡ t → (n / 10 < f → n / 10 < g → decimals f (n / 10) ≡ decimals g (n / 10)) → decimals (suc f) n ≡ decimals (suc g) n
+    by true e less =
+        let m = ltb-true n 10 e in
+        last_digit_at_the_end.one f n m ∙ sym (last_digit_at_the_end.one g n m)
     by false e less =
         let m = ltb-false n 10 e in
-        ap (λ (l : List ℕ). l ++ (48 + n % 10) ∷ []) (less (omega arith) (omega arith))
+        last_digit_at_the_end.more f n m ∙ ap (λ (l : List ℕ). l ++ (48 + n % 10) ∷ []) (less (omega arith) (omega arith)) ∙ sym (last_digit_at_the_end.more g n m)
 
 pub decimal_one : (n : ℕ) → n < 10 → decimal n ≡ (48 + n) ∷ []
-unfolding decimal decimals pick
-decimal_one n h = simp (lt-ltb n 10 h)
+unfolding decimal
+decimal_one n h = last_digit_at_the_end.one n n h
 
 pub decimal_steps : (n : ℕ) → 9 < n → decimal n ≡ decimal (n / 10) ++ (48 + n % 10) ∷ []
-unfolding decimal decimals pick
+unfolding decimal
 decimal_steps n h =
-    simp (le-ltb n 10 h) (ap (λ (l : List ℕ). l ++ (48 + n % 10) ∷ []) (same_decimals n (suc (n / 10)) (n / 10) (omega arith) (omega arith)))
+    last_digit_at_the_end.more n n h ∙ ap (λ (l : List ℕ). l ++ (48 + n % 10) ∷ []) (same_decimals n (suc (n / 10)) (n / 10) (omega arith) (omega arith))
 
 -- a number below 10 ^ (k + 1) has at most k + 1 digits, and every number has one
 pub decimal_bound : (k n : ℕ) → n < 10 ^ suc k → length (decimal n) ≤ suc k
@@ -54,14 +62,7 @@ decimal_some n = by (ltb n 10) refl
     by true e = omega (arith, ap length (decimal_one n (ltb-true n 10 e)))
     by false e = omega (arith, ap length (decimal_steps n (ltb-false n 10 e)) ∙ length-append (decimal (n / 10)) ((48 + n % 10) ∷ []))
 
--- the library's digits, which it has of the numbers below 2 ^ 64, are these
-last_digit_at_the_end : AppendsLastDigit decimals
-unfolding decimals pick
-last_digit_at_the_end = record {
-  one = λ k n h. simp (lt-ltb n 10 h);
-  more = λ k n h. simp (le-ltb n 10 h);
-}
-
+-- below 2 ^ 64, as far as a number of the machine goes, they are what the library prints
 pub same_decimal : (n : ℕ) → n < 2 ^ 64 → library_decimal n ≡ decimal n
 unfolding decimal
 same_decimal n h = sym (decimal_from_appends decimals last_digit_at_the_end (suc n) n h (omega (arith, length-decimal-le_succ n h)))
